@@ -1,0 +1,4 @@
+pub mod Flags
+pub mod Refusals
+pub mod RowList
+pub mod Spans

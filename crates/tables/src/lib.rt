@@ -1,0 +1,8 @@
+//! Row tables with fixed limits: ids, flags, spans, rows, refusals, and `Scoping`, which holds the rows.
+
+pub mod flags;
+pub mod id;
+pub mod refusal;
+pub mod row;
+pub mod rows;
+pub mod span;
