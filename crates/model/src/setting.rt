@@ -24,7 +24,11 @@ impl Setting {
     pub fn from_bits(bits: u8) -> Result<Setting, Refusal>
         ensures { λ r. ⌜ Cases r (λ s. (bits ≤ 3) × (s .bits ≡ bits)) (λ e. (3 < bits) × (e ≡ UnlistedBits)) ⌝ }
     {
-        if bits <= Self::ALL { Ok(Setting { bits }) } else { Err(Refusal::UnlistedBits) }
+        if bits <= Self::ALL {
+            Ok(Setting { bits })
+        } else {
+            Err(Refusal::UnlistedBits)
+        }
     }
 
     pub fn bits(&self) -> u8
