@@ -1,0 +1,5 @@
+pub mod Walks
+pub mod Pushes
+pub mod Rooms
+pub mod Scans
+pub mod MovedOut

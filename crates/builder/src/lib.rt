@@ -1,3 +1,6 @@
 //! The builder: the six calls over the row tables and any three stores.
 
 mod chain;
+mod declare;
+mod hoist;
+mod told;
