@@ -1,3 +1,5 @@
 pub mod View
 pub mod Telling
 pub mod Scan
+pub mod KindNumbers
+pub mod Checking

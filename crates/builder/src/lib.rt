@@ -1,6 +1,9 @@
 //! The builder: the six calls over the row tables and any three stores.
 
+pub mod binder;
 mod chain;
+pub mod checked;
 mod declare;
 mod hoist;
-mod told;
+pub mod kind;
+pub mod told;

@@ -23,8 +23,10 @@ as-declared s nm = record { names = nm; symbol = s }
 pub move-binding-requires : need.move-binding-requires
 move-binding-requires g c κs =
     let nm = names-of (contents (c .args .scoping .now)) (g .B·PairSet .pairs (c .args .bindings .now)) (g .H·PairSet .pairs (c .args .hoisting .now)) in
-    subst (λ (r : Declared). drop-pair same-scope-and-name (r .names .bindings) (place (c .args .current .0) (c .args .d .name .0)) .size < 512) (sym (c .declare-symbol-on-scope-symbol .ensures .names))
-    (moved-room (plain (c .args .d)) nm (c .args .current .0) (c .pre .room))
+    record {
+      room = subst (λ (r : Declared). drop-pair same-scope-and-name (r .names .bindings) (place (c .args .current .0) (c .args .d .name .0)) .size < 512) (sym (c .declare-symbol-on-scope-symbol .ensures .names))
+          (moved-room (plain (c .args .d)) nm (c .args .current .0) (c .pre .room));
+    }
 
 pub returns-then-is-some : need.returns-then-is-some
 unfolding declare-moved-out
