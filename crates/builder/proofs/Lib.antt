@@ -3,3 +3,4 @@ pub mod Pushes
 pub mod Rooms
 pub mod Scans
 pub mod MovedOut
+pub mod KindFacts

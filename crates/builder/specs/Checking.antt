@@ -1,9 +1,10 @@
 -- What the checks of a declaration pass on, and what it tells then.
-use Prim.Native.Nat.{ℕ}
-use mathlib.Core.Bool.{Bool, not, _||_}
-use mathlib.Core.List.{[], _∷_}
+use Prim.Native.Nat.{ℕ, suc}
+use mathlib.Core.Bool.{Bool, cond, not, _||_}
+use mathlib.Core.List.{List, [], _∷_}
 use mathlib.Core.Path.{_≡_}
 use lib.Dec.{eqb, ltb}
+use lib.ListN.{length}
 use Rattle.std.specs.declared.option.Option.{Option}
 use Rattle.std.specs.declared.option.Option.the-variants.{Some, None}
 use Rattle.std.specs.declared.result.Result.{Result}
@@ -14,6 +15,8 @@ use Rattle.tables.specs.declared.refusal.Refusal.the-variants.{UnknownKind, Mod
 use Rattle.model.specs.declared.call.Declaration.{Declaration}
 use Rattle.model.specs.declared.manner.Manner.{Manner}
 use Rattle.model.specs.Kinds.{kind-row, last-kind, includes, excludes, manner}
+use Rattle.tables.specs.declared.row.ScopeRow.{ScopeRow}
+use Rattle.model.specs.Scopes.{passed}
 use Rattle.model.specs.Declaring.{Told}
 use Rattle.model.specs.Calls.{first-of, _if_}
 use Rattle.builder.specs.declared.checked.Checked.{Checked}
@@ -52,3 +55,7 @@ tells-of c typescript strict =
 
 abbrev pub manner-of : Checked → Bool → Bool → Bool → Manner
 manner-of c typescript strict var = manner (number-of (c .kind)) (c .modifiers) typescript strict var
+
+-- how many scopes it may write to
+abbrev pub reach-of : Checked → List ScopeRow → ℕ → ℕ
+reach-of c rows here = cond (eqb (number-of (c .kind)) 1) (suc (length (passed rows here))) 1

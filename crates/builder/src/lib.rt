@@ -4,6 +4,7 @@ pub mod binder;
 mod chain;
 pub mod checked;
 mod declare;
+mod dispatch;
 mod hoist;
 pub mod kind;
 pub mod told;
