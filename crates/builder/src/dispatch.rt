@@ -15,12 +15,14 @@ use crate::binder::Binder;
 use crate::chain::conditional_or_self;
 use crate::chain::is_strict;
 use crate::chain::is_var;
+use crate::chain::passed_count;
 use crate::checked::Checked;
 use crate::checked::CheckedBinder;
 use crate::declare::declare_shadow_symbol;
 use crate::declare::declare_symbol_on_scope;
 use crate::hoist::declare_moved_out;
 use crate::hoist::declare_var;
+use crate::kind::Kind;
 use model::manner::Manner;
 use stores::key::ScopeAndName;
 use stores::store::Store;
@@ -49,5 +51,15 @@ pub(crate) fn declare_by_manner<B: Store<ScopeAndName>, H: Store<ScopeAndName>>(
             let scope = conditional_or_self(scoping, current);
             declare_symbol_on_scope(scoping, bindings, hoisting, scope, d)
         }
+    }
+}
+
+/// How many scopes a declaration may write to: for a `var` those that it passes, and its target.
+pub(crate) fn reach_of(scoping: &Scoping, current: ScopeId, declaration: Checked) -> usize
+    ensures { λ r. ⌜ r ≡ reach-of declaration (contents (now (scoping .entry)) .scopes) (current .0) ⌝ }
+{
+    match declaration.kind {
+        Kind::Var => passed_count(scoping, current) + 1,
+        _ => 1,
     }
 }

@@ -1,6 +1,7 @@
 //! The builder: the six calls over the row tables and any three stores.
 
 pub mod binder;
+pub mod builder;
 mod chain;
 pub mod checked;
 mod declare;

@@ -2,6 +2,8 @@
 ghost use mathlib.Core.Path.{_≡_};
 ghost use Prim.Native.Nat.{_≤_, _<_};
 ghost use Rattle.std.specs.Results.{Cases};
+ghost use Rattle.tables.specs.Flags.{meets};
+ghost use Rattle.model.specs.Kinds.{TypeScript, StrictRoot};
 ghost use Rattle.tables.specs.declared.refusal.Refusal.the-variants.{UnlistedBits};
 use tables::refusal::Refusal;
 
@@ -29,6 +31,18 @@ impl Setting {
         } else {
             Err(Refusal::UnlistedBits)
         }
+    }
+
+    pub fn is_typescript(&self) -> bool
+        ensures { λ r. ⌜ r ≡ meets (now (self .entry) .bits) TypeScript ⌝ }
+    {
+        self.bits & Self::TYPESCRIPT != 0
+    }
+
+    pub fn is_strict_root(&self) -> bool
+        ensures { λ r. ⌜ r ≡ meets (now (self .entry) .bits) StrictRoot ⌝ }
+    {
+        self.bits & Self::STRICT_ROOT != 0
     }
 
     pub fn bits(&self) -> u8
