@@ -4,3 +4,4 @@ pub mod Rooms
 pub mod Scans
 pub mod MovedOut
 pub mod KindFacts
+pub mod Kept
