@@ -1,3 +1,5 @@
 //! The builder: the six calls over the row tables and any three stores.
 
 mod chain;
+mod search;
+mod sought;
