@@ -1,2 +1,3 @@
 pub mod View
 pub mod Seeking
+pub mod Fates

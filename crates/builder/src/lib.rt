@@ -1,5 +1,7 @@
 //! The builder: the six calls over the row tables and any three stores.
 
 mod chain;
+mod fate;
 mod search;
+mod settle;
 mod sought;

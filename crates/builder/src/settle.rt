@@ -1,0 +1,105 @@
+//! What becomes of one pending reference.
+ghost use mathlib.Core.Path.{_≡_};
+ghost use Prim.Native.Nat.{_<_};
+ghost use lib.ListN.{length};
+ghost use Rattle.tables.specs.declared.id.Name.{Name as ModelName};
+ghost use Rattle.tables.specs.Contents.{contents};
+ghost use Rattle.tables.specs.Limits.{most-references};
+ghost use Rattle.stores.specs.Pairs.{Pairs, least-capacity};
+ghost use Rattle.stores.specs.declared.key.ScopeAndName.{ScopeAndName as ModelKey};
+ghost use Rattle.model.specs.Resolving.{list-number, with-list, settle, resolve-to, list-at-root};
+ghost use Rattle.builder.specs.View.{names-of, uses-of, beside-uses};
+ghost use Rattle.builder.specs.Seeking.{bound-names};
+ghost use Rattle.builder.specs.Fates.{fate-meant, fate-by, kept-by, pending-by, kept-uses, is-looked-up, search-end, sought-fate};
+use crate::fate::Fate;
+use crate::fate::Stage;
+use crate::search::resolved_flags;
+use crate::search::scope_is_descendant_of;
+use crate::search::search_chain;
+use crate::sought::Sought;
+use stores::key::NameKey;
+use stores::key::ScopeAndName;
+use stores::store::Store;
+use tables::id::Name;
+use tables::id::ScopeId;
+use tables::id::SymbolId;
+use tables::row::ReferenceRow;
+use tables::row::ResolvedReference;
+use tables::row::RootReference;
+use tables::row::UnresolvedReference;
+use tables::scoping::Scoping;
+
+fn search_end(stage: Stage) -> Option<ScopeId>
+    ensures { λ r. ⌜ r ≡ search-end stage ⌝ }
+{
+    match stage {
+        Stage::EndOfScope { scope, .. } => Some(scope),
+        Stage::EndOfProgram => None,
+    }
+}
+
+/// Whether an entry with this lookup scope is looked up: at the end of a scope, one from elsewhere is not.
+fn is_looked_up(scoping: &Scoping, stage: Stage, lookup: ScopeId) -> bool
+    ensures { λ r. ⌜ r ≡ is-looked-up stage (contents (now (scoping .entry)) .scopes) (lookup .0) ⌝ }
+{
+    match stage {
+        Stage::EndOfScope { scope, .. } => scope_is_descendant_of(scoping, lookup, scope),
+        Stage::EndOfProgram => true,
+    }
+}
+
+/// The fate of an entry by what a search came to.
+fn sought_fate(stage: Stage, sought: Sought) -> Fate
+    ensures { λ r. ⌜ r ≡ sought-fate stage sought ⌝ }
+{
+    match sought {
+        Sought::Found(symbol) => Fate::Resolve(symbol),
+        Sought::Ended => Fate::ListAtRoot,
+        Sought::Passed => match stage {
+            Stage::EndOfScope { parent, .. } => Fate::Stay(parent),
+            Stage::EndOfProgram => Fate::ListAtRoot,
+        },
+    }
+}
+
+/// What becomes of a pending entry.
+pub(crate) fn fate_of<B: Store<ScopeAndName>>(
+    scoping: &Scoping,
+    bindings: &B,
+    stage: Stage,
+    entry: UnresolvedReference,
+) -> Fate
+    ensures { λ r. ⌜ r ≡ fate-by stage (contents (now (scoping .entry)) .scopes) (bound-names (contents (now (scoping .entry)) .symbols) (B·PairSet .pairs (now (bindings .entry)))) (contents (now (scoping .entry)) .references) entry ⌝ }
+{
+    if !is_looked_up(scoping, stage, entry.scope) {
+        return Fate::Stay(entry.scope);
+    }
+    let flags = scoping.reference_or_empty(entry.reference).flags;
+    let sought = search_chain(
+        scoping,
+        bindings,
+        entry.name,
+        flags,
+        entry.scope,
+        search_end(stage),
+    );
+    sought_fate(stage, sought)
+}
+
+/// The number of a name's root unresolved list: a new list has the next number.
+pub(crate) fn list_number<R: Store<Name>>(roots: &mut R, name: Name) -> u32
+    requires { ⌜ R·PairSet .pairs (now roots) .size < least-capacity ⌝ }
+    ensures answer { λ r. ⌜ r ≡ list-number (R·PairSet .pairs (now (roots .entry))) (name .0) ⌝ }
+    ensures after { λ _. ⌜ R·PairSet .pairs (now (roots .exit)) ≡ with-list (R·PairSet .pairs (now (roots .entry))) (name .0) ⌝ }
+{
+    match roots.get(name) {
+        Some(list) => list,
+        None => {
+            let list = roots.count() as u32;
+            match roots.insert(name, list) {
+                Ok(()) => list,
+                Err(_) => unreachable(),
+            }
+        }
+    }
+}
