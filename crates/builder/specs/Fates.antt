@@ -2,6 +2,7 @@
 use Prim.Native.Nat.{ℕ, _+_}
 use mathlib.Core.Bool.{Bool, true, false, cond}
 use mathlib.Core.List.{List, [], _∷_}
+use mathlib.Core.Path.{_≡_}
 use lib.ListN.{getD, set, take}
 use Rattle.std.specs.declared.option.Option.{Option}
 use Rattle.std.specs.declared.option.Option.the-variants.{Some, None}
@@ -12,10 +13,11 @@ use Rattle.tables.specs.declared.row.ReferenceRow.{ReferenceRow}
 use Rattle.tables.specs.declared.row.UnresolvedReference.{UnresolvedReference}
 use Rattle.tables.specs.Contents.{Contents}
 use Rattle.stores.specs.Pairs.{Pairs}
+use Rattle.stores.specs.declared.key.ScopeAndName.{ScopeAndName}
 use Rattle.model.specs.State.{Names, Uses, no-reference}
 use Rattle.model.specs.Scopes.{chain, is-below}
-use Rattle.model.specs.Resolving.{Fate as ModelFate, resolve-to, list-at-root, stay, fate-here, fate-at-end, deferred, keep-pending}
-use Rattle.builder.specs.View.{uses-of}
+use Rattle.model.specs.Resolving.{Fate as ModelFate, resolve-to, list-at-root, stay, fate-here, fate-at-end, deferred, keep-pending, settle}
+use Rattle.builder.specs.View.{names-of, uses-of, beside-uses}
 use Rattle.builder.specs.Seeking.{seek}
 use Rattle.builder.specs.declared.sought.Sought.{Sought}
 use Rattle.builder.specs.declared.sought.Sought.the-variants.{Found, Ended, Passed}
@@ -76,3 +78,10 @@ pending-by (Stay s) ps kept e = set ps kept (deferred e (s .0))
 -- the uses, with that front alone pending
 abbrev pub kept-uses : Contents → Pairs Name → ℕ → Uses
 kept-uses c roots kept = keep-pending (uses-of c roots) (take kept (c .pending))
+
+-- one entry is settled: from the old contents and root lists to the new ones
+pub record Settled (old : Contents) (roots : Pairs Name) (new : Contents) (lists : Pairs Name) (e : UnresolvedReference) (f : Fate) (kept next : ℕ) : Type 0 where
+  pub after : (b h : Pairs ScopeAndName) → kept-uses new lists next ≡ settle (names-of old b h) (kept-uses old roots kept) e (fate-meant f)
+  pub pending : new .pending ≡ pending-by f (old .pending) kept e
+  pub count : next ≡ kept-by f kept
+  pub beside : beside-uses new ≡ beside-uses old

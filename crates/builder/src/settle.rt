@@ -10,7 +10,7 @@ ghost use Rattle.stores.specs.declared.key.ScopeAndName.{ScopeAndName as ModelK
 ghost use Rattle.model.specs.Resolving.{list-number, with-list, settle, resolve-to, list-at-root};
 ghost use Rattle.builder.specs.View.{names-of, uses-of, beside-uses};
 ghost use Rattle.builder.specs.Seeking.{bound-names};
-ghost use Rattle.builder.specs.Fates.{fate-meant, fate-by, kept-by, pending-by, kept-uses, is-looked-up, search-end, sought-fate};
+ghost use Rattle.builder.specs.Fates.{fate-by, is-looked-up, search-end, sought-fate, Settled};
 use crate::fate::Fate;
 use crate::fate::Stage;
 use crate::search::resolved_flags;
@@ -100,6 +100,84 @@ pub(crate) fn list_number<R: Store<Name>>(roots: &mut R, name: Name) -> u32
                 Ok(()) => list,
                 Err(_) => unreachable(),
             }
+        }
+    }
+}
+
+/// Resolves a reference to a symbol.
+pub(crate) fn resolve_reference(scoping: &mut Scoping, entry: UnresolvedReference, symbol: SymbolId)
+    requires { ⌜ length (contents (now scoping) .resolved) < most-references ⌝ }
+    ensures after { λ _. ⌜ ((b h : Pairs ModelKey) (roots : Pairs ModelName) → uses-of (contents (now (scoping .exit))) roots ≡ settle (names-of (contents (now (scoping .entry))) b h) (uses-of (contents (now (scoping .entry))) roots) entry (resolve-to (symbol .0))) ⌝ }
+    ensures beside { λ _. ⌜ beside-uses (contents (now (scoping .exit))) ≡ beside-uses (contents (now (scoping .entry))) ⌝ }
+{
+    let row = scoping.reference_or_empty(entry.reference);
+    let flags = resolved_flags(row.flags, scoping.symbol_or_empty(symbol).flags);
+    let _ = scoping.set_reference(
+        entry.reference,
+        ReferenceRow {
+            node: row.node,
+            flags,
+            symbol: Some(symbol),
+        },
+    );
+    let _ = scoping.add_resolved(ResolvedReference {
+        symbol,
+        reference: entry.reference,
+    });
+}
+
+/// Puts a reference into the root unresolved list of its name.
+pub(crate) fn list_at_root<R: Store<Name>>(
+    scoping: &mut Scoping,
+    roots: &mut R,
+    entry: UnresolvedReference,
+)
+    requires room { ⌜ length (contents (now scoping) .root) < most-references ⌝ }
+    requires places { ⌜ R·PairSet .pairs (now roots) .size < least-capacity ⌝ }
+    ensures after { λ _. ⌜ ((b h : Pairs ModelKey) → uses-of (contents (now (scoping .exit))) (R·PairSet .pairs (now (roots .exit))) ≡ settle (names-of (contents (now (scoping .entry))) b h) (uses-of (contents (now (scoping .entry))) (R·PairSet .pairs (now (roots .entry)))) entry list-at-root) ⌝ }
+    ensures beside { λ _. ⌜ beside-uses (contents (now (scoping .exit))) ≡ beside-uses (contents (now (scoping .entry))) ⌝ }
+{
+    let list = list_number(roots, entry.name);
+    let _ = scoping.add_root(RootReference {
+        list,
+        reference: entry.reference,
+    });
+}
+
+/// Resolves, lists or keeps an entry. One that is kept goes to the place `kept` of the pending list.
+/// Answers the place for the next one.
+pub(crate) fn settle_entry<R: Store<Name>>(
+    scoping: &mut Scoping,
+    roots: &mut R,
+    entry: UnresolvedReference,
+    fate: Fate,
+    kept: usize,
+) -> usize
+    requires there { ⌜ kept < length (contents (now scoping) .pending) ⌝ }
+    requires resolved { ⌜ length (contents (now scoping) .resolved) < most-references ⌝ }
+    requires root { ⌜ length (contents (now scoping) .root) < most-references ⌝ }
+    requires places { ⌜ R·PairSet .pairs (now roots) .size < least-capacity ⌝ }
+    ensures { λ r. ⌜ Settled (contents (now (scoping .entry))) (R·PairSet .pairs (now (roots .entry))) (contents (now (scoping .exit))) (R·PairSet .pairs (now (roots .exit))) entry fate kept r ⌝ }
+{
+    match fate {
+        Fate::Resolve(symbol) => {
+            resolve_reference(scoping, entry, symbol);
+            kept
+        }
+        Fate::ListAtRoot => {
+            list_at_root(scoping, roots, entry);
+            kept
+        }
+        Fate::Stay(scope) => {
+            let _ = scoping.set_pending(
+                kept,
+                UnresolvedReference {
+                    name: entry.name,
+                    reference: entry.reference,
+                    scope,
+                },
+            );
+            kept + 1
         }
     }
 }
