@@ -1,2 +1,5 @@
 pub mod Seeks
 pub mod Settlings
+pub mod Resolvings
+pub mod RowAnswers
+pub mod Waits

@@ -2,6 +2,7 @@
 
 mod chain;
 mod fate;
+mod resolve;
 mod search;
 mod settle;
 mod sought;
