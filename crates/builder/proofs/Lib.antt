@@ -2,4 +2,9 @@ pub mod Seeks
 pub mod Settlings
 pub mod Resolvings
 pub mod RowAnswers
-pub mod Waits
+pub mod KeptUses
+pub mod Walks
+pub mod Pushes
+pub mod Rooms
+pub mod Scans
+pub mod MovedOut

@@ -98,7 +98,7 @@ module _ (stage : Stage) (bindings : Pairs ScopeAndName) (start : ℕ) (old : Co
   -- the entries from `start` to `k` are settled, and `kept` entries stay
   pub record Resolved-to (new : Contents) (lists : Pairs Name) (kept k : ℕ) : Type 0 where
     pub same : (h : Pairs ScopeAndName) → settled-from h (kept-uses new lists kept) (drop k (old .pending)) ≡ settled-from h (kept-uses old roots start) (drop start (old .pending))
-    pub beside : beside-uses new ≡ beside-uses old
+    pub rest : beside-uses new ≡ beside-uses old
     pub ahead : drop k (new .pending) ≡ drop k (old .pending)
     pub long : length (new .pending) ≡ length (old .pending)
     pub high : kept ≤ k
@@ -109,7 +109,7 @@ module _ (stage : Stage) (bindings : Pairs ScopeAndName) (start : ℕ) (old : Co
 
   pub resolved-to-none : Resolved-to old roots start start
   resolved-to-none =
-      record { same = λ h. refl; beside = refl; ahead = refl; long = refl; high = omega arith; total = refl; resolved = omega arith; root = omega arith; size = omega arith }
+      record { same = λ h. refl; rest = refl; ahead = refl; long = refl; high = omega arith; total = refl; resolved = omega arith; root = omega arith; size = omega arith }
 
   pub resolved-to-more : (mid new : Contents) (lists next : Pairs Name) (kept m k : ℕ) (e : UnresolvedReference) (f : Fate) → Resolved-to mid lists kept k →
       nth (mid .pending) k ≡ Some e → f ≡ fate-by stage (mid .scopes) (bound-names (mid .symbols) bindings) (mid .references) e →
@@ -120,7 +120,7 @@ module _ (stage : Stage) (bindings : Pairs ScopeAndName) (start : ℕ) (old : Co
       let step : (h : Pairs ScopeAndName) → kept-uses new next m ≡ settle (names-of old bindings h) us e (machine-fate h us e) =
       λ h. s .after bindings h ∙
       ap (settle (names-of mid bindings h) us e) (ap fate-meant a ∙ fate-said stage (mid .scopes) (names-of mid bindings h) us e) ∙
-      ap (λ (x : Contents). settle (names-of x bindings h) us e (fate-in stage (x .scopes) (names-of x bindings h) us e)) (i .beside) in
+      ap (λ (x : Contents). settle (names-of x bindings h) us e (fate-in stage (x .scopes) (names-of x bindings h) us e)) (i .rest) in
       let g : Grown us (kept-uses new next m) = subst (Grown us) (sym (step no-pairs)) (grown (names-of old bindings no-pairs) us e (machine-fate no-pairs us e)) in
       let d = drop-nth (old .pending) k e (sym (nth-ahead (mid .pending) (old .pending) k (i .ahead)) ∙ q) in
       let small = kept-small f kept in
@@ -132,7 +132,7 @@ module _ (stage : Stage) (bindings : Pairs ScopeAndName) (start : ℕ) (old : Co
       let after = length-take-le m (new .pending) (omega arith) in
       record {
         same = λ h. ap (λ (u : Uses). settled-from h u (drop (k + 1) (old .pending))) (step h) ∙ sym (ap (settled-from h us) d) ∙ i .same h;
-        beside = s .beside ∙ i .beside;
+        rest = s .rest ∙ i .rest;
         ahead = ap (drop (k + 1)) (s .pending) ∙ pending-drop f (mid .pending) kept e (k + 1) (omega arith) ∙ drop-ahead (mid .pending) (old .pending) k (i .ahead);
         long = long ∙ i .long;
         high = omega arith;

@@ -1,12 +1,9 @@
 -- What settling one pending entry does.
 use Prim.Native.Nat.{ℕ, _+_, _<_}
-use mathlib.Core.Bool.{Bool, true, false, cond}
 use mathlib.Core.List.{List, [], _∷_, _++_}
 use mathlib.Core.Path.{_≡_, refl, sym, ap, subst, _∙_}
-use native.Mathlib.Omega.{arith}
 use lib.ListN.{length, getD, set, take}
 use Rattle.std.proofs.shelf.Lists.{take-more-set}
-use Rattle.std.proofs.shelf.Ways.{tells}
 use Rattle.std.specs.declared.option.Option.the-variants.{Some, None}
 use Rattle.tables.specs.declared.id.Name.{Name}
 use Rattle.tables.specs.declared.id.ScopeId.{ScopeId}
@@ -23,11 +20,9 @@ use Rattle.model.specs.State.{Uses, no-symbol, no-reference}
 use Rattle.model.specs.Resolving.{resolved-flags, list-number, with-list, deferred, keep-pending, settle, resolve-to, list-at-root}
 use Rattle.builder.specs.View.{names-of, uses-of, beside-uses}
 use Rattle.builder.specs.Fates.{Settled}
+use Rattle.builder.proofs.Pushes.{pushed-room}
 use Rattle.builder.specs.declared.fate.Fate.{Fate}
 use Rattle.builder.specs.declared.fate.Fate.the-variants.{Resolve, ListAtRoot, Stay}
-
-pushed-room : {X : Type 0} (most : ℕ) (xs : List X) (x : X) → length xs < most → pushed most xs x ≡ xs ++ x ∷ []
-pushed-room most xs x h = grind (arith, tells)
 
 pub settled-as : (old : Contents) (roots : Pairs Name) (new : Contents) (lists : Pairs Name) (e : UnresolvedReference) (f g : Fate) (kept next : ℕ) → f ≡ g →
     Settled old roots new lists e g kept next → Settled old roots new lists e f kept next
@@ -73,7 +68,7 @@ module _ (old : Contents) (e : UnresolvedReference) where
           after = λ b h. ap (λ (u : Uses). keep-pending u (take kept (u .pending))) (a b h roots);
           pending = ap (λ (u : Uses). u .pending) (a no-pairs no-pairs roots);
           count = refl;
-          beside = q;
+          rest = q;
         }
 
   -- once it is listed at the root
@@ -96,7 +91,7 @@ module _ (old : Contents) (e : UnresolvedReference) where
         after = λ b h. ap (λ (u : Uses). keep-pending u (take kept (u .pending))) (a b h);
         pending = ap (λ (u : Uses). u .pending) (a no-pairs no-pairs);
         count = refl;
-        beside = q;
+        rest = q;
       }
 
   -- and once it is kept
@@ -109,5 +104,5 @@ module _ (old : Contents) (e : UnresolvedReference) where
             ap (keep-pending (uses-of old roots)) (take-more-set (old .pending) kept (deferred e (s .0)) l);
         pending = ap (λ (t : Contents). t .pending) q;
         count = refl;
-        beside = ap beside-uses q;
+        rest = ap beside-uses q;
       }

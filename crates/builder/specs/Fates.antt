@@ -84,4 +84,4 @@ pub record Settled (old : Contents) (roots : Pairs Name) (new : Contents) (lists
   pub after : (b h : Pairs ScopeAndName) → kept-uses new lists next ≡ settle (names-of old b h) (kept-uses old roots kept) e (fate-meant f)
   pub pending : new .pending ≡ pending-by f (old .pending) kept e
   pub count : next ≡ kept-by f kept
-  pub beside : beside-uses new ≡ beside-uses old
+  pub rest : beside-uses new ≡ beside-uses old

@@ -47,3 +47,37 @@ pub(crate) fn var_scope(scoping: &Scoping, from: ScopeId) -> ScopeId
         at = above;
     }
 }
+
+/// How many scopes a var passes on the way to its nearest var scope.
+pub(crate) fn passed_count(scoping: &Scoping, from: ScopeId) -> usize
+    ensures { λ r. ⌜ r ≡ length (passed (contents (now (scoping .entry)) .scopes) (from .0)) ⌝ }
+{
+    let mut at = from;
+    let mut count = 0;
+    'climb: loop {
+        if is_var(scoping, at) {
+            return count;
+        }
+        count += 1;
+        let Some(above) = parent(scoping, at) else {
+            return count;
+        };
+        at = above;
+    }
+}
+
+/// The nearest conditional type, or the scope itself.
+pub(crate) fn conditional_or_self(scoping: &Scoping, from: ScopeId) -> ScopeId
+    ensures { λ r. ⌜ r .0 ≡ conditional-scope (contents (now (scoping .entry)) .scopes) (from .0) ⌝ }
+{
+    let mut at = from;
+    'climb: loop {
+        if scoping.scope_or_empty(at).flags.intersects(ScopeFlags::TS_CONDITIONAL) {
+            return at;
+        }
+        let Some(above) = parent(scoping, at) else {
+            return from;
+        };
+        at = above;
+    }
+}

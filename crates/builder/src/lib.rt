@@ -1,8 +1,14 @@
 //! The builder: the six calls over the row tables and any three stores.
 
+pub mod binder;
 mod chain;
+pub mod checked;
+mod declare;
 mod fate;
+mod hoist;
+pub mod kind;
 mod resolve;
 mod search;
 mod settle;
 mod sought;
+pub mod told;

@@ -5,7 +5,6 @@ ghost use lib.ListN.{length, drop};
 ghost use Rattle.tables.specs.Contents.{contents};
 ghost use Rattle.tables.specs.Limits.{most-references};
 ghost use Rattle.stores.specs.Pairs.{Pairs, least-capacity};
-ghost use Rattle.stores.specs.declared.key.ScopeAndName.{ScopeAndName as ModelKey};
 ghost use Rattle.model.specs.Basics.{maybe};
 ghost use Rattle.model.specs.Scopes.{parent-of};
 ghost use Rattle.model.specs.Resolving.{settle-all, resolve-here, resolve-end};
@@ -36,8 +35,8 @@ fn settle_pending<B: Store<ScopeAndName>, R: Store<Name>>(
     requires room { ⌜ length (contents (now scoping) .pending) + length (contents (now scoping) .resolved) + length (contents (now scoping) .root) ≤ most-references ⌝ }
     requires places { ⌜ R·PairSet .pairs (now roots) .size + (length (contents (now scoping) .pending) - start) ≤ least-capacity ⌝ }
     ensures answer { λ r. ⌜ Counted r ≡ counted (uses-of (contents (now (scoping .entry))) (R·PairSet .pairs (now (roots .entry)))) (uses-of (contents (now (scoping .exit))) (R·PairSet .pairs (now (roots .exit)))) ⌝ }
-    ensures after { λ _. ⌜ ((h : Pairs ModelKey) → uses-of (contents (now (scoping .exit))) (R·PairSet .pairs (now (roots .exit))) ≡ settle-all (names-of (contents (now (scoping .entry))) (B·PairSet .pairs (now (bindings .entry))) h) (fate-in stage (contents (now (scoping .entry)) .scopes) (names-of (contents (now (scoping .entry))) (B·PairSet .pairs (now (bindings .entry))) h)) (kept-uses (contents (now (scoping .entry))) (R·PairSet .pairs (now (roots .entry))) start) (drop start (contents (now (scoping .entry)) .pending))) ⌝ }
-    ensures beside { λ _. ⌜ beside-uses (contents (now (scoping .exit))) ≡ beside-uses (contents (now (scoping .entry))) ⌝ }
+    ensures after { λ _. ⌜ ((h : Pairs ScopeAndName) → uses-of (contents (now (scoping .exit))) (R·PairSet .pairs (now (roots .exit))) ≡ settle-all (names-of (contents (now (scoping .entry))) (B·PairSet .pairs (now (bindings .entry))) h) (fate-in stage (contents (now (scoping .entry)) .scopes) (names-of (contents (now (scoping .entry))) (B·PairSet .pairs (now (bindings .entry))) h)) (kept-uses (contents (now (scoping .entry))) (R·PairSet .pairs (now (roots .entry))) start) (drop start (contents (now (scoping .entry)) .pending))) ⌝ }
+    ensures rest { λ _. ⌜ beside-uses (contents (now (scoping .exit))) ≡ beside-uses (contents (now (scoping .entry))) ⌝ }
 {
     let resolved = scoping.resolved_count();
     let root = scoping.root_count();
@@ -80,8 +79,8 @@ pub(crate) fn resolve_from<B: Store<ScopeAndName>, R: Store<Name>>(
     requires room { ⌜ length (contents (now scoping) .pending) + length (contents (now scoping) .resolved) + length (contents (now scoping) .root) ≤ most-references ⌝ }
     requires places { ⌜ R·PairSet .pairs (now roots) .size + (length (contents (now scoping) .pending) - start) ≤ least-capacity ⌝ }
     ensures answer { λ r. ⌜ Counted r ≡ counted (uses-of (contents (now (scoping .entry))) (R·PairSet .pairs (now (roots .entry)))) (uses-of (contents (now (scoping .exit))) (R·PairSet .pairs (now (roots .exit)))) ⌝ }
-    ensures after { λ _. ⌜ ((h : Pairs ModelKey) → uses-of (contents (now (scoping .exit))) (R·PairSet .pairs (now (roots .exit))) ≡ resolve-here (contents (now (scoping .entry)) .scopes) (current .0) (names-of (contents (now (scoping .entry))) (B·PairSet .pairs (now (bindings .entry))) h) start (uses-of (contents (now (scoping .entry))) (R·PairSet .pairs (now (roots .entry))))) ⌝ }
-    ensures beside { λ _. ⌜ beside-uses (contents (now (scoping .exit))) ≡ beside-uses (contents (now (scoping .entry))) ⌝ }
+    ensures after { λ _. ⌜ ((h : Pairs ScopeAndName) → uses-of (contents (now (scoping .exit))) (R·PairSet .pairs (now (roots .exit))) ≡ resolve-here (contents (now (scoping .entry)) .scopes) (current .0) (names-of (contents (now (scoping .entry))) (B·PairSet .pairs (now (bindings .entry))) h) start (uses-of (contents (now (scoping .entry))) (R·PairSet .pairs (now (roots .entry))))) ⌝ }
+    ensures rest { λ _. ⌜ beside-uses (contents (now (scoping .exit))) ≡ beside-uses (contents (now (scoping .entry))) ⌝ }
 {
     let parent = parent_or_root(scoping, current);
     settle_pending(
@@ -105,8 +104,8 @@ pub(crate) fn resolve_all<B: Store<ScopeAndName>, R: Store<Name>>(
     requires room { ⌜ length (contents (now scoping) .pending) + length (contents (now scoping) .resolved) + length (contents (now scoping) .root) ≤ most-references ⌝ }
     requires places { ⌜ R·PairSet .pairs (now roots) .size + length (contents (now scoping) .pending) ≤ least-capacity ⌝ }
     ensures answer { λ r. ⌜ Counted r ≡ counted (uses-of (contents (now (scoping .entry))) (R·PairSet .pairs (now (roots .entry)))) (uses-of (contents (now (scoping .exit))) (R·PairSet .pairs (now (roots .exit)))) ⌝ }
-    ensures after { λ _. ⌜ ((h : Pairs ModelKey) → uses-of (contents (now (scoping .exit))) (R·PairSet .pairs (now (roots .exit))) ≡ resolve-end (contents (now (scoping .entry)) .scopes) (names-of (contents (now (scoping .entry))) (B·PairSet .pairs (now (bindings .entry))) h) (uses-of (contents (now (scoping .entry))) (R·PairSet .pairs (now (roots .entry))))) ⌝ }
-    ensures beside { λ _. ⌜ beside-uses (contents (now (scoping .exit))) ≡ beside-uses (contents (now (scoping .entry))) ⌝ }
+    ensures after { λ _. ⌜ ((h : Pairs ScopeAndName) → uses-of (contents (now (scoping .exit))) (R·PairSet .pairs (now (roots .exit))) ≡ resolve-end (contents (now (scoping .entry)) .scopes) (names-of (contents (now (scoping .entry))) (B·PairSet .pairs (now (bindings .entry))) h) (uses-of (contents (now (scoping .entry))) (R·PairSet .pairs (now (roots .entry))))) ⌝ }
+    ensures rest { λ _. ⌜ beside-uses (contents (now (scoping .exit))) ≡ beside-uses (contents (now (scoping .entry))) ⌝ }
 {
     settle_pending(scoping, bindings, roots, Stage::EndOfProgram, 0)
 }

@@ -2,11 +2,9 @@
 ghost use mathlib.Core.Path.{_≡_};
 ghost use Prim.Native.Nat.{_<_};
 ghost use lib.ListN.{length};
-ghost use Rattle.tables.specs.declared.id.Name.{Name as ModelName};
 ghost use Rattle.tables.specs.Contents.{contents};
 ghost use Rattle.tables.specs.Limits.{most-references};
 ghost use Rattle.stores.specs.Pairs.{Pairs, least-capacity};
-ghost use Rattle.stores.specs.declared.key.ScopeAndName.{ScopeAndName as ModelKey};
 ghost use Rattle.model.specs.Resolving.{list-number, with-list, settle, resolve-to, list-at-root};
 ghost use Rattle.builder.specs.View.{names-of, uses-of, beside-uses};
 ghost use Rattle.builder.specs.Seeking.{bound-names};
@@ -107,8 +105,8 @@ pub(crate) fn list_number<R: Store<Name>>(roots: &mut R, name: Name) -> u32
 /// Resolves a reference to a symbol.
 pub(crate) fn resolve_reference(scoping: &mut Scoping, entry: UnresolvedReference, symbol: SymbolId)
     requires { ⌜ length (contents (now scoping) .resolved) < most-references ⌝ }
-    ensures after { λ _. ⌜ ((b h : Pairs ModelKey) (roots : Pairs ModelName) → uses-of (contents (now (scoping .exit))) roots ≡ settle (names-of (contents (now (scoping .entry))) b h) (uses-of (contents (now (scoping .entry))) roots) entry (resolve-to (symbol .0))) ⌝ }
-    ensures beside { λ _. ⌜ beside-uses (contents (now (scoping .exit))) ≡ beside-uses (contents (now (scoping .entry))) ⌝ }
+    ensures after { λ _. ⌜ ((b h : Pairs ScopeAndName) (roots : Pairs Name) → uses-of (contents (now (scoping .exit))) roots ≡ settle (names-of (contents (now (scoping .entry))) b h) (uses-of (contents (now (scoping .entry))) roots) entry (resolve-to (symbol .0))) ⌝ }
+    ensures rest { λ _. ⌜ beside-uses (contents (now (scoping .exit))) ≡ beside-uses (contents (now (scoping .entry))) ⌝ }
 {
     let row = scoping.reference_or_empty(entry.reference);
     let flags = resolved_flags(row.flags, scoping.symbol_or_empty(symbol).flags);
@@ -134,8 +132,8 @@ pub(crate) fn list_at_root<R: Store<Name>>(
 )
     requires room { ⌜ length (contents (now scoping) .root) < most-references ⌝ }
     requires places { ⌜ R·PairSet .pairs (now roots) .size < least-capacity ⌝ }
-    ensures after { λ _. ⌜ ((b h : Pairs ModelKey) → uses-of (contents (now (scoping .exit))) (R·PairSet .pairs (now (roots .exit))) ≡ settle (names-of (contents (now (scoping .entry))) b h) (uses-of (contents (now (scoping .entry))) (R·PairSet .pairs (now (roots .entry)))) entry list-at-root) ⌝ }
-    ensures beside { λ _. ⌜ beside-uses (contents (now (scoping .exit))) ≡ beside-uses (contents (now (scoping .entry))) ⌝ }
+    ensures after { λ _. ⌜ ((b h : Pairs ScopeAndName) → uses-of (contents (now (scoping .exit))) (R·PairSet .pairs (now (roots .exit))) ≡ settle (names-of (contents (now (scoping .entry))) b h) (uses-of (contents (now (scoping .entry))) (R·PairSet .pairs (now (roots .entry)))) entry list-at-root) ⌝ }
+    ensures rest { λ _. ⌜ beside-uses (contents (now (scoping .exit))) ≡ beside-uses (contents (now (scoping .entry))) ⌝ }
 {
     let list = list_number(roots, entry.name);
     let _ = scoping.add_root(RootReference {

@@ -99,12 +99,15 @@ not-expression nm s = cond (meets (flags-of nm s) FunctionExpression) None (Some
 unfoldable pub found : Names → ℕ → ℕ → Option ℕ
 found nm scope name = maybe (maybe (binding nm scope name) (hoisted nm scope name) Some) None (not-expression nm)
 
+abbrev pub new-symbol : Told → ℕ → SymbolRow
+new-symbol d scope = record { name = the-name (d .name); start = d .start; end = d .end; flags = symbol-flags (d .includes); scope = the-scope scope; node = the-node (d .node) }
+
 -- a new symbol, bound in the scope over any other
 unfoldable pub declare-shadow-symbol : Told → Names → ℕ → Declared
 declare-shadow-symbol d nm scope =
     record {
       names = record {
-        symbols = nm .symbols ++ record { name = the-name (d .name); start = d .start; end = d .end; flags = symbol-flags (d .includes); scope = the-scope scope; node = the-node (d .node) } ∷ [];
+        symbols = nm .symbols ++ new-symbol d scope ∷ [];
         bindings = put same-scope-and-name (nm .bindings) (place scope (d .name)) (length (nm .symbols));
         hoisting = nm .hoisting;
         redeclarations = nm .redeclarations;

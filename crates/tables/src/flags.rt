@@ -161,6 +161,15 @@ impl SymbolFlags {
     }
 }
 
+impl SymbolFlags {
+    /// Its flags that the set lacks.
+    pub fn difference(self, set: SymbolFlags) -> SymbolFlags
+        ensures { λ r. ⌜ r .0 ≡ less (self .0) (set .0) ⌝ }
+    {
+        SymbolFlags(self.0 - (self.0 & set.0))
+    }
+}
+
 impl ReferenceFlags {
     pub const READ: ReferenceFlags = ReferenceFlags(1 << 0);
 

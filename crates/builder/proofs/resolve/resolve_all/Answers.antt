@@ -8,5 +8,5 @@ returns g c =
       answer = c .settle-pending .ensures .answer;
       after = λ h.
           resolved-at-end (contents (c .args .scoping .now)) (g .B·PairSet .pairs (c .args .bindings .now)) h (g .R·PairSet .pairs (c .args .roots .now)) _ (c .settle-pending .ensures .after h);
-      beside = c .settle-pending .ensures .beside;
+      rest = c .settle-pending .ensures .rest;
     }

@@ -9,5 +9,5 @@ returns g c =
       after = λ h.
           resolved-here (contents (c .args .scoping .now)) (g .B·PairSet .pairs (c .args .bindings .now)) h (g .R·PairSet .pairs (c .args .roots .now)) (c .args .current) (c .parent-or-root-parent .result) (c .args .start) _
           (c .parent-or-root-parent .ensures) (c .settle-pending .ensures .after h);
-      beside = c .settle-pending .ensures .beside;
+      rest = c .settle-pending .ensures .rest;
     }

@@ -44,5 +44,5 @@ returns g c =
       after = λ h.
           ap (λ (t : Contents). uses-of t (g .R·PairSet .pairs (c .loop-k .roots))) (c .cut-pending .ensures) ∙
           resolved-to-all _ _ _ _ _ _ _ _ (c .loop-k .k) (c .loop-k .inv) (omega arith) h;
-      beside = ap beside-uses (c .cut-pending .ensures) ∙ c .loop-k .inv .beside;
+      rest = ap beside-uses (c .cut-pending .ensures) ∙ c .loop-k .inv .rest;
     }

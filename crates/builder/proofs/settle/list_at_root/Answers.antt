@@ -8,5 +8,5 @@ pub returns : need.returns
 returns g c =
     record {
       after = listed-uses (contents (c .args .scoping .now)) (c .args .entry) _ _ _ _ (c .list-number-list .ensures .answer) (c .list-number-list .ensures .after) (c .add-root .ensures .after) (c .pre .room);
-      beside = ap beside-uses (c .add-root .ensures .after);
+      rest = ap beside-uses (c .add-root .ensures .after);
     }

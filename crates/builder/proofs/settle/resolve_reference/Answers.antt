@@ -9,4 +9,4 @@ returns c =
     let old = contents (c .args .scoping .now) in
     let q = resolved-so old (c .args .entry) (c .args .symbol) (c .reference-or-empty-row .result) (c .symbol-or-empty .result) (c .resolved-flags-flags .result .0) _ _
     (c .reference-or-empty-row .ensures) (c .symbol-or-empty .ensures) (c .resolved-flags-flags .ensures) (c .set-reference .ensures .after) (c .add-resolved .ensures .after) (c .pre) in
-    record { after = resolved-uses old (c .args .entry) (c .args .symbol) _ q; beside = ap beside-uses q }
+    record { after = resolved-uses old (c .args .entry) (c .args .symbol) _ q; rest = ap beside-uses q }

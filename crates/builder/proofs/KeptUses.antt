@@ -18,10 +18,10 @@ use Rattle.model.specs.Resolving.{Fate as ModelFate, resolve-to, list-at-root, 
 use Rattle.builder.proofs.Resolvings.{entries, Grown, grown}
 
 -- each entry is of one of the first n references
-abbrev pub Waits : ℕ → List UnresolvedReference → Type 0
-Waits n ps = (k : ℕ) (e : UnresolvedReference) → nth ps k ≡ Some e → e .reference .0 < n
+abbrev pub Refers-below : ℕ → List UnresolvedReference → Type 0
+Refers-below n ps = (k : ℕ) (e : UnresolvedReference) → nth ps k ≡ Some e → e .reference .0 < n
 
-pub waits-push : (n : ℕ) (ps : List UnresolvedReference) (p : UnresolvedReference) → Waits n ps → p .reference .0 < n → Waits n (ps ++ p ∷ [])
+pub waits-push : (n : ℕ) (ps : List UnresolvedReference) (p : UnresolvedReference) → Refers-below n ps → p .reference .0 < n → Refers-below n (ps ++ p ∷ [])
 waits-push n ps p h l k e q =
     let m = length-push ps p in
     ⊎-elim (λ (a : k ≡ length ps). let r : Some p ≡ Some e = sym (ap (nth (ps ++ p ∷ [])) a ∙ nth-push-at ps p) ∙ q in let b : p ≡ e = cc in subst (λ (x : UnresolvedReference). x .reference .0 < n) b l)
@@ -29,26 +29,26 @@ waits-push n ps p h l k e q =
     (λ (a : length ps < k). let b = nth-below (ps ++ p ∷ []) k e q in absurd (omega arith)))
     (cases-order k (length ps))
 
-waits-take : (n : ℕ) (ps : List UnresolvedReference) (j : ℕ) → Waits n ps → Waits n (take j ps)
+waits-take : (n : ℕ) (ps : List UnresolvedReference) (j : ℕ) → Refers-below n ps → Refers-below n (take j ps)
 waits-take n [] zero h k e q = h k e q
 waits-take n [] (suc j) h k e q = h k e q
 waits-take n (p ∷ ps) zero h k e q = let z : _≡_ {A = ℕ} 0 1 = cc in absurd (omega arith)
 waits-take n (p ∷ ps) (suc j) h zero e q = h zero e q
 waits-take n (p ∷ ps) (suc j) h (suc k) e q = waits-take n ps j (λ i y r. h (suc i) y r) k e q
 
-waits-drop : (n : ℕ) (ps : List UnresolvedReference) (j : ℕ) → Waits n ps → Waits n (drop j ps)
+waits-drop : (n : ℕ) (ps : List UnresolvedReference) (j : ℕ) → Refers-below n ps → Refers-below n (drop j ps)
 waits-drop n ps zero h k e q = h k e q
 waits-drop n [] (suc j) h k e q = h k e q
 waits-drop n (p ∷ ps) (suc j) h k e q = waits-drop n ps j (λ i y r. h (suc i) y r) k e q
 
-waits-settle : (n : ℕ) (nm : Names) (us : Uses) (e : UnresolvedReference) (f : ModelFate) → Waits n (us .pending) → e .reference .0 < n → Waits n (settle nm us e f .pending)
+waits-settle : (n : ℕ) (nm : Names) (us : Uses) (e : UnresolvedReference) (f : ModelFate) → Refers-below n (us .pending) → e .reference .0 < n → Refers-below n (settle nm us e f .pending)
 unfolding settle
 waits-settle n nm us e (resolve-to s) h l = h
 waits-settle n nm us e list-at-root h l = h
 waits-settle n nm us e (stay s) h l = waits-push n (us .pending) (deferred e s) h l
 
 module _ (nm : Names) (fate : Uses → UnresolvedReference → ModelFate) where
-  waits-all : (n : ℕ) (us : Uses) (es : List UnresolvedReference) → Waits n (us .pending) → Waits n es → Waits n (settle-all nm fate us es .pending)
+  waits-all : (n : ℕ) (us : Uses) (es : List UnresolvedReference) → Refers-below n (us .pending) → Refers-below n es → Refers-below n (settle-all nm fate us es .pending)
   unfolding settle-all
   waits-all n us [] h l = h
   waits-all n us (e ∷ es) h l = waits-all n (settle nm us e (fate us e)) es (waits-settle n nm us e (fate us e) h (l 0 e refl)) (λ k x q. l (suc k) x q)
@@ -69,7 +69,7 @@ module _ (nm : Names) (fate : Uses → UnresolvedReference → ModelFate) where
 pub record Kept-in (us v : Uses) : Type 0 where
   pub references : length (v .references) ≡ length (us .references)
   pub total : entries v ≡ entries us
-  pub waits : Waits (length (us .references)) (us .pending) → Waits (length (v .references)) (v .pending)
+  pub waits : Refers-below (length (us .references)) (us .pending) → Refers-below (length (v .references)) (v .pending)
 
 kept-in : (nm : Names) (fate : Uses → UnresolvedReference → ModelFate) (us : Uses) (start : ℕ) →
     Kept-in us (settle-all nm fate (keep-pending us (take start (us .pending))) (drop start (us .pending)))
@@ -84,9 +84,12 @@ kept-in nm fate us start =
       references = r;
       total = omega arith;
       waits = λ h.
-          subst (λ (n : ℕ). Waits n (settle-all nm fate front rest .pending)) (sym r)
+          subst (λ (n : ℕ). Refers-below n (settle-all nm fate front rest .pending)) (sym r)
           (waits-all nm fate (length (us .references)) front rest (waits-take _ (us .pending) start h) (waits-drop _ (us .pending) start h));
     }
+
+pub kept-as : (us v w : Uses) → v ≡ w → Kept-in us w → Kept-in us v
+kept-as us v w q = subst (Kept-in us) (sym q)
 
 pub resolve-here-keeps : (rows : List ScopeRow) (here : ℕ) (nm : Names) (start : ℕ) (us : Uses) → Kept-in us (resolve-here rows here nm start us)
 unfolding resolve-here
