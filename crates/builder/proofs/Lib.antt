@@ -10,3 +10,4 @@ pub mod Scans
 pub mod MovedOut
 pub mod KindFacts
 pub mod Kept
+pub mod Refusing
