@@ -7,7 +7,7 @@ ghost use lib.ListN.{length};
 ghost use Rattle.std.specs.declared.result.Result.the-variants.{Ok, Err};
 ghost use Rattle.tables.specs.declared.refusal.Refusal.the-variants.{StoreFull};
 ghost use Rattle.stores.specs.Pairs.{no-pairs, least-capacity};
-ghost use Rattle.list_store.specs.Found.{listed};
+ghost use Rattle.list_store.specs.Meaning.{pairs-of, capacity-of};
 use super::ListStore;
 use crate::entry::Entry;
 use stores::key::Key;
@@ -26,10 +26,11 @@ impl<'a, K: Key> ListStore<'a, K> {
         }
     }
 
+    /// A store with no pairs; what the entries held is lost.
     pub fn new(entries: &'a mut [Entry<K>]) -> ListStore<'a, K>
         requires { ⌜ least-capacity ≤ length (now entries) ⌝ }
-        ensures empty { λ r. ⌜ listed (K·Key .same) (r .count) (now (r .entries)) ≡ no-pairs ⌝ }
-        ensures places { λ r. ⌜ length (now (r .entries)) ≡ length (now (entries .entry)) ⌝ }
+        ensures empty { λ r. ⌜ pairs-of (K·Key .same) r ≡ no-pairs ⌝ }
+        ensures places { λ r. ⌜ capacity-of r ≡ length (now (entries .entry)) ⌝ }
     {
         ListStore { entries, count: 0 }
     }

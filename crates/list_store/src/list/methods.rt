@@ -1,9 +1,9 @@
 //! A list store keeps a store's promises.
-ghost use Prim.Native.Nat.{ℕ, _<_};
-ghost use denote.Ref.{now as held};
-ghost use lib.ListN.{length, take};
+ghost use Prim.Native.Nat.{_<_};
+ghost use lib.ListN.{take};
 ghost use Rattle.std.specs.Options.{Cases};
-ghost use Rattle.list_store.specs.Found.{listed, Placed};
+ghost use Rattle.list_store.specs.Found.{Placed};
+ghost use Rattle.list_store.specs.Meaning.{pairs-of, capacity-of};
 use super::ListStore;
 use crate::entry::Entry;
 use crate::place::number_of;
@@ -24,9 +24,9 @@ impl<'a, K: Key> ListStore<'a, K> {
 }
 
 pub impl<'a, K: Key> PairSet<K> for ListStore<'a, K> as ListStorePairSet {
-    ghost pairs = { λ s. listed (K·Key .same) (s .count) (held (s .entries)) };
+    ghost pairs = { pairs-of (K·Key .same) };
 
-    ghost capacity = { λ s. length (held (s .entries)) };
+    ghost capacity = { capacity-of };
 
     ghost bounds = { λ s. record { enough = s .enough; within = s .within } };
 }
