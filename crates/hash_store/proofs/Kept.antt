@@ -75,13 +75,21 @@ taken-same xs i y l t =
 
 -- ---- a write to a slot
 
+pub alike-sym : {K : Type 0} (u v : Slot K) → Alike u v → Alike v u
+alike-sym Empty v h = absurd h
+alike-sym Deleted v h = absurd h
+alike-sym (Full k g n) Empty h = absurd h
+alike-sym (Full k g n) Deleted h = absurd h
+alike-sym (Full k g n) (Full l m o) h = (sym (h .0), sym (h .1))
+
 module _ {K : Type 0} (xs : List (Slot K)) (i : ℕ) (y : Slot K) (in′ : i < length xs) where
   -- what holds of y, and of every slot, holds of every slot after
-  at-set : (P : ℕ → Slot K → Type 0) → P i y → (j : ℕ) → (j ≢ i → P j (getD xs j Empty)) → P j (getD (set xs i y) j Empty)
+  pub at-set : (P : ℕ → Slot K → Type 0) → P i y → (j : ℕ) → (j ≢ i → P j (getD xs j Empty)) → P j (getD (set xs i y) j Empty)
   at-set P h j old =
-      elim (cases-eq j i)
-      [ inl e ↦ subst (λ z. P z (getD (set xs i y) z Empty)) (sym e) (subst (P i) (sym (getD-set-same xs i y Empty in′)) h)
-      | inr n ↦ subst (P j) (sym (getD-set-other xs i j y Empty n)) (old n) ]
+      elim (cases-eq j i) [
+        | inl e ↦ subst (λ z. P z (getD (set xs i y) z Empty)) (sym e) (subst (P i) (sym (getD-set-same xs i y Empty in′)) h)
+        | inr n ↦ subst (P j) (sym (getD-set-other xs i j y Empty n)) (old n)
+      ]
 
   pub settled-set : is-empty y ≡ false → ((t : ℕ) → is-full y ≡ true → t < steps (length xs) (hash-in y % length xs) i → is-empty (getD xs (spot (length xs) (hash-in y % length xs) t) Empty) ≡ false) → Settled xs → Settled (set xs i y)
   settled-set some way old j t =
@@ -93,19 +101,14 @@ module _ {K : Type 0} (xs : List (Slot K)) (i : ℕ) (y : Slot K) (in′ : i < l
 
   pub unlike-set : ((j : ℕ) → j ≢ i → Alike y (getD xs j Empty) → ⊥) → Unlike xs → Unlike (set xs i y)
   unlike-set apart old a b h =
-      elim (cases-eq a i)
-      [ inl p ↦ let n : b ≢ i = omega arith in
-          apart b n (subst (λ z. Alike y z) (getD-set-other xs i b y Empty n) (subst (λ z. Alike z (getD (set xs i y) b Empty)) (ap (λ z. getD (set xs i y) z Empty) p ∙ getD-set-same xs i y Empty in′) (h .1)))
-      | inr n ↦ elim (cases-eq b i)
-        [ inl p ↦ apart a n (alike-sym (getD xs a Empty) y (subst (λ z. Alike (getD xs a Empty) z) (ap (λ z. getD (set xs i y) z Empty) p ∙ getD-set-same xs i y Empty in′) (subst (λ z. Alike z (getD (set xs i y) b Empty)) (getD-set-other xs i a y Empty n) (h .1))))
-        | inr m ↦ old a b (h .0, subst (λ z. Alike (getD xs a Empty) z) (getD-set-other xs i b y Empty m) (subst (λ z. Alike z (getD (set xs i y) b Empty)) (getD-set-other xs i a y Empty n) (h .1))) ] ]
-    where
-      alike-sym : (u v : Slot K) → Alike u v → Alike v u
-      alike-sym Empty v h = absurd h
-      alike-sym Deleted v h = absurd h
-      alike-sym (Full k g n) Empty h = absurd h
-      alike-sym (Full k g n) Deleted h = absurd h
-      alike-sym (Full k g n) (Full l m o) h = (sym (h .0), sym (h .1))
+      elim (cases-eq a i) [
+        | inl p ↦ let n : b ≢ i = omega arith in
+            apart b n (subst (λ z. Alike y z) (getD-set-other xs i b y Empty n) (subst (λ z. Alike z (getD (set xs i y) b Empty)) (ap (λ z. getD (set xs i y) z Empty) p ∙ getD-set-same xs i y Empty in′) (h .1)))
+        | inr n ↦ elim (cases-eq b i) [
+          | inl p ↦ apart a n (alike-sym (getD xs a Empty) y (subst (λ z. Alike (getD xs a Empty) z) (ap (λ z. getD (set xs i y) z Empty) p ∙ getD-set-same xs i y Empty in′) (subst (λ z. Alike z (getD (set xs i y) b Empty)) (getD-set-other xs i a y Empty n) (h .1))))
+          | inr m ↦ old a b (h .0, subst (λ z. Alike (getD xs a Empty) z) (getD-set-other xs i b y Empty m) (subst (λ z. Alike z (getD (set xs i y) b Empty)) (getD-set-other xs i a y Empty n) (h .1)))
+        ]
+      ]
 
 -- ---- what a search finds
 
@@ -128,13 +131,16 @@ module _ {K : Type 0} (e : K → K → Bool) (hash : K → ℕ) where
   -- only one slot holds a key
   pub only : (exact : (x y : K) → e x y ≡ true → x ≡ y) (q : K) (xs : List (Slot K)) (i : ℕ) → Unlike xs → matches e (hash q) q (getD xs i Empty) ≡ true → (j : ℕ) → j ≢ i → matches e (hash q) q (getD xs j Empty) ≡ false
   only exact q xs i unlike h j n =
-      elim (cases-bool (matches e (hash q) q (getD xs j Empty)))
-      [ inr f ↦ f
-      | inl m ↦ elim (cases-order i j)
-        [ inl p ↦ absurd (n (sym p))
-        | inr o ↦ elim o
-          [ inl l ↦ absurd (unlike i j (l, alike (getD xs i Empty) (getD xs j Empty) h m))
-          | inr l ↦ absurd (unlike j i (l, alike (getD xs j Empty) (getD xs i Empty) m h)) ] ] ]
+      elim (cases-bool (matches e (hash q) q (getD xs j Empty))) [
+        | inr f ↦ f
+        | inl m ↦ elim (cases-order i j) [
+          | inl p ↦ absurd (n (sym p))
+          | inr o ↦ elim o [
+            | inl l ↦ absurd (unlike i j (l, alike (getD xs i Empty) (getD xs j Empty) h m))
+            | inr l ↦ absurd (unlike j i (l, alike (getD xs j Empty) (getD xs i Empty) m h))
+          ]
+        ]
+      ]
     where
       alike : (u v : Slot K) → matches e (hash q) q u ≡ true → matches e (hash q) q v ≡ true → Alike u v
       alike Empty v a b = both-ways false refl a
@@ -172,27 +178,30 @@ module _ {K : Type 0} (e : K → K → Bool) (hash : K → ℕ) where
         → (q : K) → held-by e hash (set xs i (Full k (hash k) v)) q ≡ cond (e q k) (Some v) (held-by e hash xs q)
     held-put k v xs i l others old q =
         let y : Slot K = Full k (hash k) v in
-        elim (cases-bool (e q k))
-        [ inl t ↦ same-held k q (set xs i y) t
-            ∙ held-here k (set xs i y) i (subst (λ z. matches e (hash k) k z ≡ true) (sym (getD-set-same xs i y Empty l)) (full-match k v)) (λ j n. subst (λ z. matches e (hash k) k z ≡ false) (sym (getD-set-other xs i j y Empty n)) (others j n))
-            ∙ ap (λ z. Some (number-in z)) (getD-set-same xs i y Empty l)
-            ∙ sym (cond-true (e q k) (Some v) (held-by e hash xs q) t)
-        | inr f ↦ held-set q xs i y (and-right (eqb (hash q) (hash k)) (e q k) f) (old q f) ∙ sym (cond-false (e q k) (Some v) (held-by e hash xs q) f) ]
+        elim (cases-bool (e q k)) [
+          | inl t ↦ same-held k q (set xs i y) t
+              ∙ held-here k (set xs i y) i (subst (λ z. matches e (hash k) k z ≡ true) (sym (getD-set-same xs i y Empty l)) (full-match k v)) (λ j n. subst (λ z. matches e (hash k) k z ≡ false) (sym (getD-set-other xs i j y Empty n)) (others j n))
+              ∙ ap (λ z. Some (number-in z)) (getD-set-same xs i y Empty l)
+              ∙ sym (cond-true (e q k) (Some v) (held-by e hash xs q) t)
+          | inr f ↦ held-set q xs i y (and-right (eqb (hash q) (hash k)) (e q k) f) (old q f) ∙ sym (cond-false (e q k) (Some v) (held-by e hash xs q) f)
+        ]
 
     pub held-drop : (k : K) (xs : List (Slot K)) (i : ℕ) → i < length xs → ((j : ℕ) → j ≢ i → matches e (hash k) k (getD xs j Empty) ≡ false) → ((q : K) → e q k ≡ false → matches e (hash q) q (getD xs i Empty) ≡ false)
         → (q : K) → held-by e hash (set xs i Deleted) q ≡ cond (e q k) None (held-by e hash xs q)
     held-drop k xs i l others old q =
-        elim (cases-bool (e q k))
-        [ inl t ↦ same-held k q (set xs i Deleted) t
-            ∙ held-none k (set xs i Deleted) (λ j. at-set xs i Deleted l (λ _ z. matches e (hash k) k z ≡ false) refl j (others j))
-            ∙ sym (cond-true (e q k) None (held-by e hash xs q) t)
-        | inr f ↦ held-set q xs i Deleted refl (old q f) ∙ sym (cond-false (e q k) None (held-by e hash xs q) f) ]
+        elim (cases-bool (e q k)) [
+          | inl t ↦ same-held k q (set xs i Deleted) t
+              ∙ held-none k (set xs i Deleted) (λ j. at-set xs i Deleted l (λ _ z. matches e (hash k) k z ≡ false) refl j (others j))
+              ∙ sym (cond-true (e q k) None (held-by e hash xs q) t)
+          | inr f ↦ held-set q xs i Deleted refl (old q f) ∙ sym (cond-false (e q k) None (held-by e hash xs q) f)
+        ]
 
     pub held-same : (k : K) (xs : List (Slot K)) → ((j : ℕ) → matches e (hash k) k (getD xs j Empty) ≡ false) → (q : K) → held-by e hash xs q ≡ cond (e q k) None (held-by e hash xs q)
     held-same k xs none q =
-        elim (cases-bool (e q k))
-        [ inl t ↦ same-held k q xs t ∙ held-none k xs none ∙ sym (cond-true (e q k) None (held-by e hash xs q) t)
-        | inr f ↦ sym (cond-false (e q k) None (held-by e hash xs q) f) ]
+        elim (cases-bool (e q k)) [
+          | inl t ↦ same-held k q xs t ∙ held-none k xs none ∙ sym (cond-true (e q k) None (held-by e hash xs q) t)
+          | inr f ↦ sym (cond-false (e q k) None (held-by e hash xs q) f)
+        ]
 
     -- a slot that holds k's key holds it after a write of the same key
     pub settled-again : (k : K) (h v : ℕ) (xs : List (Slot K)) (i : ℕ) → h ≡ hash k → i < length xs → matches e (hash k) k (getD xs i Empty) ≡ true → Settled xs → Settled (set xs i (Full k h v))

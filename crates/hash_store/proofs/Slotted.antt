@@ -55,20 +55,23 @@ module _ {K : Type 0} (e : K → K → Bool) where
       → is-empty (getD xs (spot (length xs) (g % length xs) t) Empty) ≡ true
       → (j : ℕ) → matches e g q (getD xs j Empty) ≡ false
   stopped xs g q t home l settled before here j =
-      elim (cases-bool (matches e g q (getD xs j Empty)))
-      [ inr f ↦ f
-      | inl m ↦
-          let x = getD xs j Empty in
-          let f = matches-full g q x m in
-          let inside = full-within xs j f in
-          let h = matches-hash g q x m in
-          let at = spot-steps (length xs) (g % length xs) home j inside in
-          elim (cases-lt t (steps (length xs) (g % length xs) j))
-          [ inl p ↦ absurd (both-ways (is-empty (getD xs (spot (length xs) (g % length xs) t) Empty))
-              (subst (λ z. is-empty (getD xs (spot (length xs) (z % length xs) t) Empty) ≡ false) h (settled j t (f, subst (λ z. t < steps (length xs) (z % length xs) j) (sym h) p))) here)
-          | inr p ↦ elim (cases-eq t (steps (length xs) (g % length xs) j))
-            [ inl o ↦ absurd (both-ways (is-full (getD xs j Empty)) (empty-unfull (getD xs j Empty) (subst (λ z. is-empty (getD xs z Empty) ≡ true) (ap (spot (length xs) (g % length xs)) o ∙ at) here)) f)
-            | inr o ↦ subst (λ z. matches e g q (getD xs z Empty) ≡ false) at (before (steps (length xs) (g % length xs) j) (omega arith)) ] ] ]
+      elim (cases-bool (matches e g q (getD xs j Empty))) [
+        | inr f ↦ f
+        | inl m ↦
+            let x = getD xs j Empty in
+            let f = matches-full g q x m in
+            let inside = full-within xs j f in
+            let h = matches-hash g q x m in
+            let at = spot-steps (length xs) (g % length xs) home j inside in
+            elim (cases-lt t (steps (length xs) (g % length xs) j)) [
+              | inl p ↦ absurd (both-ways (is-empty (getD xs (spot (length xs) (g % length xs) t) Empty))
+                  (subst (λ z. is-empty (getD xs (spot (length xs) (z % length xs) t) Empty) ≡ false) h (settled j t (f, subst (λ z. t < steps (length xs) (z % length xs) j) (sym h) p))) here)
+              | inr p ↦ elim (cases-eq t (steps (length xs) (g % length xs) j)) [
+                | inl o ↦ absurd (both-ways (is-full (getD xs j Empty)) (empty-unfull (getD xs j Empty) (subst (λ z. is-empty (getD xs z Empty) ≡ true) (ap (spot (length xs) (g % length xs)) o ∙ at) here)) f)
+                | inr o ↦ subst (λ z. matches e g q (getD xs z Empty) ≡ false) at (before (steps (length xs) (g % length xs) j) (omega arith))
+              ]
+            ]
+      ]
 
   pub past-end : (xs : List (Slot K)) (g : ℕ) (q : K) → ((j : ℕ) → j < length xs → matches e g q (getD xs j Empty) ≡ false) → (j : ℕ) → matches e g q (getD xs j Empty) ≡ false
   past-end xs g q all j =
@@ -78,7 +81,8 @@ module _ {K : Type 0} (e : K → K → Bool) where
 pub step-more : {K : Type 0} (P : Slot K → Type 0) (xs : List (Slot K)) (home t at r : ℕ) (x : Slot K) → home < length xs → t < length xs → at < length xs → at ≡ spot (length xs) home t → r ≡ cond (eqb (at + 1) (length xs)) 0 (at + 1) → x ≡ getD xs at x → P x
     → ((s : ℕ) → s < t → P (getD xs (spot (length xs) home s) Empty))
     → (r < length xs) × (r ≡ spot (length xs) home (t + 1)) × ((s : ℕ) → s < t + 1 → P (getD xs (spot (length xs) home s) Empty))
-step-more P xs home t at r x l h a is next read here before =
-    ( next-below (length xs) at r a next
-    , next ∙ ap (λ z. cond (eqb (z + 1) (length xs)) 0 (z + 1)) is ∙ spot-next (length xs) home l t h
-    , below-more (λ s. P (getD xs (spot (length xs) home s) Empty)) t before (subst (λ z. P (getD xs z Empty)) is (subst P (getD-read xs at x a read Empty) here)) )
+step-more P xs home t at r x l h a is next read here before = (
+  next-below (length xs) at r a next,
+  next ∙ ap (λ z. cond (eqb (z + 1) (length xs)) 0 (z + 1)) is ∙ spot-next (length xs) home l t h,
+  below-more (λ s. P (getD xs (spot (length xs) home s) Empty)) t before (subst (λ z. P (getD xs z Empty)) is (subst P (getD-read xs at x a read Empty) here)),
+)

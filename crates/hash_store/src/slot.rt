@@ -59,7 +59,11 @@ impl<K: Key> Slot<K> {
         match *self {
             Slot::Empty => false,
             Slot::Deleted => false,
-            Slot::Full { key: kept, hash: kept_hash, .. } => hash == kept_hash && key.same_as(&kept),
+            Slot::Full {
+                key: kept,
+                hash: kept_hash,
+                ..
+            } => hash == kept_hash && key.same_as(&kept),
         }
     }
 }

@@ -17,10 +17,11 @@ returns-then-is-empty g c =
     let x = c .index-slots-at in
     let inv = c .loop-step .inv in
     let hash = g .K·Key .hash (c .args .key) in
-    record
-      { within = tt
-      ; place = stopped (g .K·Key .same) xs hash (c .args .key) (c .loop-step .-step) (mod-lt hash (c .pre .some)) (c .loop-step-test .taken) (c .pre .settled) (inv .2)
-          (subst (λ z. is-empty (getD xs z Empty) ≡ true) (inv .1) (subst (λ z. is-empty z ≡ true) (getD-read xs (c .loop-step .at) (x .result) (inv .0) (x .is) Empty) (sym (c .if-is-empty .ensures tt)))) }
+    record {
+      within = tt;
+      place = stopped (g .K·Key .same) xs hash (c .args .key) (c .loop-step .-step) (mod-lt hash (c .pre .some)) (c .loop-step-test .taken) (c .pre .settled) (inv .2)
+          (subst (λ z. is-empty (getD xs z Empty) ≡ true) (inv .1) (subst (λ z. is-empty z ≡ true) (getD-read xs (c .loop-step .at) (x .result) (inv .0) (x .is) Empty) (sym (c .if-is-empty .ensures tt))));
+    }
 
 pub loop-step-again : need.loop-step-again
 loop-step-again g c =
@@ -36,6 +37,7 @@ returns g c =
     let xs = c .args .slots .now in
     let hash = g .K·Key .hash (c .args .key) in
     let P = λ (z : Slot (g .K .Denot)). matches (g .K·Key .same) hash (c .args .key) z ≡ false in
-    record
-      { within = tt
-      ; place = past-end (g .K·Key .same) xs hash (c .args .key) (went-round xs P (hash % length xs) (mod-lt hash (c .pre .some)) (λ s h. c .loop-step .inv .2 s (omega arith))) }
+    record {
+      within = tt;
+      place = past-end (g .K·Key .same) xs hash (c .args .key) (went-round xs P (hash % length xs) (mod-lt hash (c .pre .some)) (λ s h. c .loop-step .inv .2 s (omega arith)));
+    }

@@ -19,10 +19,11 @@ returns-then-not-is-full g c =
     let inv = c .loop-step .inv in
     let home = c .args .hash % length xs in
     let far = ap (steps (length xs) home) (inv .1) ∙ steps-spot (length xs) home (mod-lt (c .args .hash) (c .pre)) (c .loop-step .-step) (c .loop-step-test .taken) in
-    record
-      { within = inv .0
-      ; free = subst (λ z. is-full z ≡ false) (getD-read xs (c .loop-step .at) (x .result) (inv .0) (x .is) Empty) (sym (c .if-not-is-full .ensures tt))
-      ; way = λ t h. inv .2 t (subst (λ z. t < z) far h) }
+    record {
+      within = inv .0;
+      free = subst (λ z. is-full z ≡ false) (getD-read xs (c .loop-step .at) (x .result) (inv .0) (x .is) Empty) (sym (c .if-not-is-full .ensures tt));
+      way = λ t h. inv .2 t (subst (λ z. t < z) far h);
+    }
 
 pub loop-step-again : need.loop-step-again
 loop-step-again g c =

@@ -2,6 +2,7 @@ use mathlib.Core.Bool.{true, false}
 use mathlib.Core.Path.{_≡_, refl, sym, ap, _∙_, subst}
 use Prim.Native.Nat.{_<_}
 use native.Mathlib.Omega.{arith}
+use borrow.Author.Needs.{needs}
 use borrow.Author.Count.{below-more}
 use lib.ListN.{length, getD, set}
 use Rattle.std.proofs.shelf.Lists.{length-set, getD-default}
@@ -12,6 +13,16 @@ use Rattle.hash_store.specs.Slots.{is-full, hashed}
 use Rattle.hash_store.proofs.Kept.{taken-some, taken-less, taken-none, taken-same, settled-set, unlike-set, all-unfull, unfull-taken, unfull-more, settled-unfull, unlike-unfull, hashed-unfull}
 use Rattle.hash_store.proofs.hash.methods.HashStoreStore.clear.Needs as need
 use Rattle.hash_store.proofs.hash.methods.HashStoreStore.clear.Needs.{then-is-full, else-is-full}
+
+pub returns-then-self-eq0 : need.returns-then-self-eq0
+returns-then-self-eq0 g c =
+    let s = c .args .self .now in
+    let xs = s .slots .now in
+    let none : s .count ≡ 0 = omega arith in
+    record { after = ap (λ n. hashed (g .K·Key .same) (g .K·Key .hash) n xs) none ∙ hashed-unfull xs (unfull-taken xs (sym (s .counted) ∙ none)) (g .K·Key .same) (g .K·Key .hash); places = refl }
+
+pub offset-self-i-in-loop-i-2 : need.offset-self-i-in-loop-i-2
+offset-self-i-in-loop-i-2 g c = let h : c .loop-i-2 .i < length (c .args .self .now .slots .now) = omega (arith, c .loop-i .inv .0, c .loop-i-2 .inv .0) in search needs
 
 pub sub-self : need.sub-self
 sub-self g c =
@@ -38,14 +49,15 @@ loop-i-again g c =
     let inv = c .loop-i .inv in
     let l : c .loop-i .i < length xs = omega arith in
     let before = inv .1 in
-    elim (c .if-is-full .came)
-    [ then-is-full w ↦
-        let now = ap (λ z. z .slots .now) (w .self-is) in
-        (ap length now ∙ length-set xs i Deleted ∙ inv .0, λ k h. ap (λ zs. is-full (getD zs k Empty)) now ∙ unfull-more xs i Deleted l refl before k h)
-    | else-is-full w ↦
-        let now = ap (λ z. z .slots .now) (w .self-is) in
-        let was = ap is-full (getD-default xs i Empty (c .index-self-i .result) l) ∙ sym (w .if-is-full .ensures tt) in
-        (ap length now ∙ inv .0, λ k h. ap (λ zs. is-full (getD zs k Empty)) now ∙ below-more (λ j. is-full (getD xs j Empty) ≡ false) i before was k h) ]
+    elim (c .if-is-full .came) [
+      | then-is-full w ↦
+          let now = ap (λ z. z .slots .now) (w .self-is) in
+          (ap length now ∙ length-set xs i Deleted ∙ inv .0, λ k h. ap (λ zs. is-full (getD zs k Empty)) now ∙ unfull-more xs i Deleted l refl before k h)
+      | else-is-full w ↦
+          let now = ap (λ z. z .slots .now) (w .self-is) in
+          let was = ap is-full (getD-default xs i Empty (c .index-self-i .result) l) ∙ sym (w .if-is-full .ensures tt) in
+          (ap length now ∙ inv .0, λ k h. ap (λ zs. is-full (getD zs k Empty)) now ∙ below-more (λ j. is-full (getD xs j Empty) ≡ false) i before was k h)
+    ]
 
 pub loop-i-2-holds : need.loop-i-2-holds
 loop-i-2-holds g c =

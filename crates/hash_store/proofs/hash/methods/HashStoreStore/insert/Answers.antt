@@ -29,10 +29,16 @@ ghost-self g c =
     let h = c .hash-number-hash in
     let y = Full k (h .result) (c .args .number) in
     let size = length-set xs i y in
-    let still = taken-same xs i y (t .within) (matches-full e (hash k) k (getD xs i Empty) (t .place)) in
-    (omega arith, (omega arith,
-     (settled-again e hash (m .reflexive) (m .symmetric) (m .transitive) (m .hashes) k (h .result) (c .args .number) xs i (h .ensures) (t .within) (t .place) (s .settled),
-     (unlike-new e hash (m .reflexive) (m .symmetric) (m .transitive) (m .hashes) k (h .result) (c .args .number) xs i (h .ensures) (t .within) (only e hash (m .exact) k xs i (s .different) (t .place)) (s .different), tt))))
+    let still = taken-same xs i y (t .within) (matches-full e (hash k) k (getD xs i Empty) (t .place)) in (
+      omega arith,
+      (
+        omega arith,
+        (
+          settled-again e hash (m .reflexive) (m .symmetric) (m .transitive) (m .hashes) k (h .result) (c .args .number) xs i (h .ensures) (t .within) (t .place) (s .settled),
+          (unlike-new e hash (m .reflexive) (m .symmetric) (m .transitive) (m .hashes) k (h .result) (c .args .number) xs i (h .ensures) (t .within) (only e hash (m .exact) k xs i (s .different) (t .place)) (s .different), tt),
+        ),
+      ),
+    )
 
 pub add-self : need.add-self
 add-self g c =
@@ -53,10 +59,16 @@ ghost-self-in-Some-room g c =
     let h = c .hash-number-hash in
     let y = Full k (h .result) (c .args .number) in
     let size = length-set xs i y in
-    let more = taken-more xs i y (t .within) (t .free) refl in
-    (omega arith, (omega arith,
-     (settled-new e hash (m .reflexive) (m .symmetric) (m .transitive) (m .hashes) k (h .result) (c .args .number) xs i (t .within) (t .way) (s .settled),
-     (unlike-new e hash (m .reflexive) (m .symmetric) (m .transitive) (m .hashes) k (h .result) (c .args .number) xs i (h .ensures) (t .within) (λ j _. c .in-None .ensures tt .place j) (s .different), tt))))
+    let more = taken-more xs i y (t .within) (t .free) refl in (
+      omega arith,
+      (
+        omega arith,
+        (
+          settled-new e hash (m .reflexive) (m .symmetric) (m .transitive) (m .hashes) k (h .result) (c .args .number) xs i (t .within) (t .way) (s .settled),
+          (unlike-new e hash (m .reflexive) (m .symmetric) (m .transitive) (m .hashes) k (h .result) (c .args .number) xs i (h .ensures) (t .within) (λ j _. c .in-None .ensures tt .place j) (s .different), tt),
+        ),
+      ),
+    )
 
 pub returns-in-Some : need.returns-in-Some
 returns-in-Some g c =
@@ -70,11 +82,12 @@ returns-in-Some g c =
     let m = g .K·Key·met in
     let h = c .hash-number-hash in
     let f : full (hashed e hash (s .count) xs) (length xs) k ≡ false = ap (λ o. not (isSome o) && eqb (s .count) (length xs)) (held-here e hash k xs i (t .place) (only e hash (m .exact) k xs i (s .different) (t .place))) in
-    record
-      { answer = ap (λ b. cond b (Err StoreFull) (Ok tt)) (sym f)
-      ; after = put-again e hash (m .reflexive) (m .symmetric) (m .transitive) (m .hashes) (m .exact) k (h .result) (c .args .number) (s .count) xs i (h .ensures) (t .within) (s .different) (t .place)
-          ∙ ap (λ b. cond b (hashed e hash (s .count) xs) (put e (hashed e hash (s .count) xs) k (c .args .number))) (sym f)
-      ; places = length-set xs i (Full k (h .result) (c .args .number)) }
+    record {
+      answer = ap (λ b. cond b (Err StoreFull) (Ok tt)) (sym f);
+      after = put-again e hash (m .reflexive) (m .symmetric) (m .transitive) (m .hashes) (m .exact) k (h .result) (c .args .number) (s .count) xs i (h .ensures) (t .within) (s .different) (t .place)
+          ∙ ap (λ b. cond b (hashed e hash (s .count) xs) (put e (hashed e hash (s .count) xs) k (c .args .number))) (sym f);
+      places = length-set xs i (Full k (h .result) (c .args .number));
+    }
 
 pub returns-in-Some-room : need.returns-in-Some-room
 returns-in-Some-room g c =
@@ -90,11 +103,12 @@ returns-in-Some-room g c =
     let h = c .hash-number-hash in
     let room = taken-room xs i (t .within) (t .free) in
     let f : full (hashed e hash (s .count) xs) (length xs) k ≡ false = ap (λ o. not (isSome o) && eqb (s .count) (length xs)) (held-none e hash k xs none) ∙ ne-eqb (s .count) (length xs) (λ z. omega arith) in
-    record
-      { answer = ap (λ b. cond b (Err StoreFull) (Ok tt)) (sym f)
-      ; after = put-new e hash (m .reflexive) (m .symmetric) (m .transitive) (m .hashes) (m .exact) k (h .result) (c .args .number) (s .count) xs i (h .ensures) (t .within) none (t .free)
-          ∙ ap (λ b. cond b (hashed e hash (s .count) xs) (put e (hashed e hash (s .count) xs) k (c .args .number))) (sym f)
-      ; places = length-set xs i (Full k (h .result) (c .args .number)) }
+    record {
+      answer = ap (λ b. cond b (Err StoreFull) (Ok tt)) (sym f);
+      after = put-new e hash (m .reflexive) (m .symmetric) (m .transitive) (m .hashes) (m .exact) k (h .result) (c .args .number) (s .count) xs i (h .ensures) (t .within) none (t .free)
+          ∙ ap (λ b. cond b (hashed e hash (s .count) xs) (put e (hashed e hash (s .count) xs) k (c .args .number))) (sym f);
+      places = length-set xs i (Full k (h .result) (c .args .number));
+    }
 
 pub returns-in-None-room : need.returns-in-None-room
 returns-in-None-room g c =
@@ -105,7 +119,8 @@ returns-in-None-room g c =
     let hash = g .K·Key .hash in
     let every = taken-all xs (c .in-None-room .ensures tt .way) in
     let f : full (hashed e hash (s .count) xs) (length xs) k ≡ true = ap (λ o. not (isSome o) && eqb (s .count) (length xs)) (held-none e hash k xs (c .in-None .ensures tt .place)) ∙ eq-eqb (s .count) (length xs) (omega arith) in
-    record
-      { answer = ap (λ b. cond b (Err StoreFull) (Ok tt)) (sym f)
-      ; after = ap (λ b. cond b (hashed e hash (s .count) xs) (put e (hashed e hash (s .count) xs) k (c .args .number))) (sym f)
-      ; places = refl }
+    record {
+      answer = ap (λ b. cond b (Err StoreFull) (Ok tt)) (sym f);
+      after = ap (λ b. cond b (hashed e hash (s .count) xs) (put e (hashed e hash (s .count) xs) k (c .args .number))) (sym f);
+      places = refl;
+    }

@@ -31,9 +31,10 @@ returns-in-Some g c =
     let xs = s .slots .now in
     let t = c .in-Some .ensures tt in
     let m = g .K·Key·met in
-    record
-      { after = drop-held (g .K·Key .same) (g .K·Key .hash) (m .reflexive) (m .symmetric) (m .transitive) (m .hashes) (m .exact) (c .args .key) (s .count) xs (c .in-Some .i) (t .within) (s .different) (t .place)
-      ; places = length-set xs (c .in-Some .i) Deleted }
+    record {
+      after = c .close .ensures .after ∙ drop-held (g .K·Key .same) (g .K·Key .hash) (m .reflexive) (m .symmetric) (m .transitive) (m .hashes) (m .exact) (c .args .key) (s .count) xs (c .in-Some .i) (t .within) (s .different) (t .place);
+      places = c .close .ensures .places ∙ length-set xs (c .in-Some .i) Deleted;
+    }
 
 pub returns-in-rest : need.returns-in-rest
 returns-in-rest g c =
