@@ -2,6 +2,7 @@
 ghost use mathlib.Core.Path.{_≡_};
 ghost use Rattle.std.specs.declared.result.Result.the-variants.{Ok};
 ghost use Rattle.store_demo.specs.Exercise.{exercised};
+ghost use Rattle.store_demo.specs.Answered.{answers};
 use stores::key::Key;
 use stores::store::Store;
 use tables::refusal::Refusal;
@@ -16,7 +17,7 @@ pub struct Answers {
 
 /// Inserts two keys into the cleared store, removes the second, and asks for both.
 pub fn exercise<K: Key, S: Store<K>>(store: &mut S, kept: K, removed: K) -> Result<Answers, Refusal>
-    ensures answer { λ r. ⌜ r ≡ Ok (record { kept = exercised (K·Key .same) kept removed .get kept; removed = exercised (K·Key .same) kept removed .get removed; count = exercised (K·Key .same) kept removed .size }) ⌝ }
+    ensures answer { λ r. ⌜ r ≡ Ok (answers (K·Key .same) kept removed) ⌝ }
     ensures after { λ _. ⌜ S·PairSet .pairs (now (store .exit)) ≡ exercised (K·Key .same) kept removed ⌝ }
     ensures places { λ _. ⌜ S·PairSet .capacity (now (store .exit)) ≡ S·PairSet .capacity (now (store .entry)) ⌝ }
 {
