@@ -122,8 +122,8 @@ pub impl<'a, K: Key> Store<K> for HashStore<'a, K> as HashStoreStore {
                 self.count -= 1;
             }
         }
-        for i in 0..self.slots.len() {
-            self.slots[i] = Slot::Empty;
+        for at in 0..self.slots.len() {
+            self.slots[at] = Slot::Empty;
         }
     }
 }

@@ -21,8 +21,8 @@ returns-then-self-eq0 g c =
     let none : s .count ≡ 0 = omega arith in
     record { after = ap (λ n. hashed (g .K·Key .same) (g .K·Key .hash) n xs) none ∙ hashed-unfull xs (unfull-taken xs (sym (s .counted) ∙ none)) (g .K·Key .same) (g .K·Key .hash); places = refl }
 
-pub offset-self-i-in-loop-i-2 : need.offset-self-i-in-loop-i-2
-offset-self-i-in-loop-i-2 g c = let h : c .loop-i-2 .i < length (c .args .self .now .slots .now) = omega (arith, c .loop-i .inv .0, c .loop-i-2 .inv .0) in search needs
+pub offset-self-at : need.offset-self-at
+offset-self-at g c = let h : c .loop-at .at < length (c .args .self .now .slots .now) = omega (arith, c .loop-i .inv .0, c .loop-at .inv .0) in search needs
 
 pub sub-self : need.sub-self
 sub-self g c =
@@ -59,26 +59,26 @@ loop-i-again g c =
           (ap length now ∙ inv .0, λ k h. ap (λ zs. is-full (getD zs k Empty)) now ∙ below-more (λ j. is-full (getD xs j Empty) ≡ false) i before was k h)
     ]
 
-pub loop-i-2-holds : need.loop-i-2-holds
-loop-i-2-holds g c =
+pub loop-at-holds : need.loop-at-holds
+loop-at-holds g c =
     let s = c .loop-i .self in
     let z = taken-none (s .slots .now) (λ j h. c .loop-i .inv .1 j (omega arith)) in
     (refl, s .counted ∙ z)
 
-pub ghost-self-in-loop-i-2 : need.ghost-self-in-loop-i-2
-ghost-self-in-loop-i-2 g c =
-    let s = c .loop-i-2 .self in
+pub ghost-self-in-loop-at : need.ghost-self-in-loop-at
+ghost-self-in-loop-at g c =
+    let s = c .loop-at .self in
     let xs = s .slots .now in
-    let inv = c .loop-i-2 .inv in
+    let inv = c .loop-at .inv in
     let old = unfull-taken xs (sym (s .counted) ∙ inv .1) in
-    let size = length-set xs (c .loop-i-2 .i) Empty in
-    let same = taken-same xs (c .loop-i-2 .i) Empty (omega arith) (old (c .loop-i-2 .i)) in
-    let none = unfull-taken (set xs (c .loop-i-2 .i) Empty) (same ∙ sym (s .counted) ∙ inv .1) in
-    (omega arith, (omega arith, (settled-unfull (set xs (c .loop-i-2 .i) Empty) none, (unlike-unfull (set xs (c .loop-i-2 .i) Empty) none, tt))))
+    let size = length-set xs (c .loop-at .at) Empty in
+    let same = taken-same xs (c .loop-at .at) Empty (omega arith) (old (c .loop-at .at)) in
+    let none = unfull-taken (set xs (c .loop-at .at) Empty) (same ∙ sym (s .counted) ∙ inv .1) in
+    (omega arith, (omega arith, (settled-unfull (set xs (c .loop-at .at) Empty) none, (unlike-unfull (set xs (c .loop-at .at) Empty) none, tt))))
 
 pub returns : need.returns
 returns g c =
-    let s = c .loop-i-2 .self in
+    let s = c .loop-at .self in
     let xs = s .slots .now in
-    let inv = c .loop-i-2 .inv in
+    let inv = c .loop-at .inv in
     record { after = ap (λ n. hashed (g .K·Key .same) (g .K·Key .hash) n xs) (inv .1) ∙ hashed-unfull xs (unfull-taken xs (sym (s .counted) ∙ inv .1)) (g .K·Key .same) (g .K·Key .hash); places = inv .0 ∙ c .loop-i .inv .0 }

@@ -11,7 +11,7 @@ Inv-loop-i g l =
     (length (l .self .slots .now) ≡ length (l .entry .self .slots .now))
     × ((k : ℕ) → k < l .i → is-full (getD (l .self .slots .now) k Empty) ≡ false)
 
-abbrev pub Inv-loop-i-2 : given.InvT-loop-i-2
-Inv-loop-i-2 g l =
+abbrev pub Inv-loop-at : given.InvT-loop-at
+Inv-loop-at g l =
     (length (l .self .slots .now) ≡ length (l .entry .self .slots .now))
     × (l .self .count ≡ 0)
