@@ -72,7 +72,7 @@ pub(crate) fn vacant<K: Key>(slots: &[Slot<K>], hash: u32) -> Option<usize>
     ensures way { λ r. ⌜ Cases r ((j : ℕ) → j < length (now (slots .entry)) → is-full (getD (now (slots .entry)) j Empty) ≡ true) (λ i. (t : ℕ) → t < steps (length (now (slots .entry))) (hash % length (now (slots .entry))) i → is-full (getD (now (slots .entry)) (spot (length (now (slots .entry))) (hash % length (now (slots .entry))) t) Empty) ≡ true) ⌝ }
 {
     let mut at = hash as usize % slots.len();
-    for _step in 0..slots.len() {
+    for _turn in 0..slots.len() {
         let slot = slots[at];
         if !slot.is_full() {
             return Some(at);
