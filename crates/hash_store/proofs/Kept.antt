@@ -1,13 +1,13 @@
 -- What a write to a slot keeps of a hashed store's facts, and what it does to the pairs.
 use mathlib.Core.Bool.{Bool, true, false, cond, not, _&&_}
 use mathlib.Core.List.{List, [], _∷_}
-use mathlib.Core.Logic.{_≢_, _⊎_, inl, inr}
+use mathlib.Core.Logic.{_≢_, inl, inr}
 use mathlib.Core.Path.{_≡_, refl, sym, ap, ap₂, _∙_, subst}
 use Prim.Native.Nat.{ℕ, zero, suc, pred, _+_, _-_, _%_, _<_, _≤_}
 use native.Mathlib.Nat.{not-suc-le-zero, le-of-suc-le-suc}
 use native.Mathlib.Numerals.{add-one, sub-one}
 use native.Mathlib.Omega.{arith}
-use lib.Dec.{eqb, ltb}
+use lib.Dec.{eqb}
 use lib.ListN.{length, getD, set}
 use Rattle.std.specs.Options.{isSome}
 use Rattle.std.specs.declared.option.Option.the-variants.{Some, None}
@@ -15,7 +15,7 @@ use Rattle.std.proofs.shelf.Lists.{getD-set-same, getD-set-other, length-set}
 use Rattle.std.proofs.shelf.Tests.{both-ways, cases-eq, cases-order, cases-bool, and-parts, and-from, and-right, eq-eqb, eqb-true, cond-true, cond-false}
 use Rattle.hash_store.specs.declared.slot.Slot.{Slot}
 use Rattle.hash_store.specs.declared.slot.Slot.the-variants.{Empty, Deleted, Full}
-use Rattle.stores.specs.Pairs.{Pairs, put, drop-pair, full}
+use Rattle.stores.specs.Pairs.{put, drop-pair, full}
 use Rattle.hash_store.specs.Slots.{is-empty, is-full, matches, number-in, hash-in, held-by, taken, taken-within, spot, steps, Settled, Alike, Unlike, hashed}
 use Rattle.stores.proofs.Bools.{same-bools}
 use Rattle.hash_store.proofs.Slotted.{full-within, matches-full, matches-hash, unfull}

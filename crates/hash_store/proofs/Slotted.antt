@@ -1,20 +1,17 @@
 -- What a write to a slot does to the pairs that the slots stand for.
-use mathlib.Core.Bool.{Bool, true, false, cond, _&&_}
+use mathlib.Core.Bool.{Bool, true, false, cond}
 use mathlib.Core.List.{List, [], _∷_}
-use mathlib.Core.Logic.{_≢_, _⊎_, inl, inr}
+use mathlib.Core.Logic.{inl, inr}
 use mathlib.Core.Path.{_≡_, refl, sym, ap, _∙_, subst}
-use Prim.Native.Nat.{ℕ, zero, suc, _+_, _-_, _%_, _<_, _≤_}
-use native.Mathlib.Nat.{not-suc-le-zero, le-of-suc-le-suc}
+use Prim.Native.Nat.{ℕ, zero, suc, _+_, _-_, _%_, _<_}
 use native.Mathlib.Omega.{arith}
-use lib.Dec.{eqb, ltb}
-use lib.ListN.{length, getD, set}
-use Rattle.std.specs.declared.option.Option.{Option}
-use Rattle.std.specs.declared.option.Option.the-variants.{Some, None}
-use Rattle.std.proofs.shelf.Lists.{getD-set-same, getD-set-other, getD-read, length-set}
-use Rattle.std.proofs.shelf.Tests.{both-ways, cases-eq, cases-lt, cases-order, cases-bool, and-parts, eq-eqb, eqb-true}
+use lib.Dec.{eqb}
+use lib.ListN.{length, getD}
+use Rattle.std.proofs.shelf.Lists.{getD-read}
+use Rattle.std.proofs.shelf.Tests.{both-ways, cases-eq, cases-lt, cases-bool, and-parts, eqb-true}
 use Rattle.hash_store.specs.declared.slot.Slot.{Slot}
 use Rattle.hash_store.specs.declared.slot.Slot.the-variants.{Empty, Deleted, Full}
-use Rattle.hash_store.specs.Slots.{is-empty, is-full, matches, number-in, hash-in, held-by, taken, spot, steps, Settled, Alike, Unlike, hashed}
+use Rattle.hash_store.specs.Slots.{is-empty, is-full, matches, hash-in, spot, steps, Settled}
 use borrow.Author.Count.{below-more}
 use Rattle.hash_store.proofs.Ring.{steps-below, spot-steps, spot-next, next-below}
 

@@ -2,18 +2,16 @@
 use mathlib.Core.Bool.{Bool, true, false, cond}
 use mathlib.Core.List.{List, [], _∷_, _++_}
 use mathlib.Core.Path.{_≡_, refl, sym, ap, _∙_}
-use Prim.Native.Nat.{ℕ, zero, suc, _+_, _<_, _≤_}
+use Prim.Native.Nat.{ℕ, zero, suc, _+_, _<_}
 use native.Mathlib.Nat.{not-suc-le-zero, le-of-suc-le-suc}
 use native.Mathlib.Omega.{arith}
 use lib.ListN.{length, getD, set, take, drop}
-use Rattle.std.specs.declared.option.Option.{Option}
 use Rattle.std.specs.declared.option.Option.the-variants.{Some, None}
-use Rattle.std.specs.shelf.Lists.{All, removed}
+use Rattle.std.specs.shelf.Lists.{removed}
 use Rattle.std.proofs.shelf.Elements.{all-weaker}
-use Rattle.std.proofs.shelf.Tests.{both-ways}
 use Rattle.stores.proofs.Bools.{same-bools, not-both}
 use Rattle.list_store.specs.declared.entry.Entry.{Entry}
-use Rattle.list_store.specs.Found.{found, Apart, Missing, Hit}
+use Rattle.list_store.specs.Found.{found, Missing, Hit}
 
 again : {X : Type 0} (b : Bool) (u w l : X) → cond b u l ≡ cond b u (cond b w l)
 again true u w l = refl

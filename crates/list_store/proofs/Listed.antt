@@ -1,8 +1,8 @@
 -- What an insertion or a removal among the first n entries does to the pairs that they stand for.
 use mathlib.Core.Bool.{Bool, true, false, cond, not, _&&_}
 use mathlib.Core.List.{List, [], _∷_, _++_}
-use mathlib.Core.Logic.{_≢_, _⊎_, inl, inr}
-use mathlib.Core.Path.{_≡_, refl, sym, ap, _∙_, fun-ext, subst}
+use mathlib.Core.Logic.{_≢_, inl, inr}
+use mathlib.Core.Path.{_≡_, refl, sym, ap, _∙_, subst}
 use Prim.Native.Nat.{ℕ, zero, suc, pred, _+_, _<_, _≤_}
 use native.Mathlib.Nat.{add-zero}
 use native.Mathlib.Numerals.{add-one}
@@ -18,7 +18,7 @@ use Rattle.std.proofs.shelf.Lists.{append-assoc, drop-set-lt, drop-drop, take-m
 use Rattle.std.proofs.shelf.Tests.{both-ways, cases-eq, cases-lt}
 use Rattle.list_store.specs.declared.entry.Entry.{Entry}
 use Rattle.list_store.specs.Found.{found, Apart, Missing, Hit, listed}
-use Rattle.stores.specs.Pairs.{Pairs, put, drop-pair, full}
+use Rattle.stores.specs.Pairs.{put, drop-pair, full}
 use Rattle.list_store.proofs.Entries.{missing-found, hit-found, hit-same, hit-below, found-set, found-push, found-removed, found-missing}
 
 pub take-set-in : {X : Type 0} (n : ℕ) (xs : List X) (i : ℕ) (y : X) → take n (set xs i y) ≡ set (take n xs) i y

@@ -3,11 +3,11 @@ use mathlib.Core.Path.{_≡_, sym, ap, subst, _∙_}
 use Prim.Native.Nat.{_<_, _%_}
 use native.Mathlib.Nat.{mod-lt}
 use native.Mathlib.Omega.{arith}
-use lib.ListN.{length, getD}
+use lib.ListN.{length}
 use Rattle.std.proofs.shelf.Lists.{getD-read}
 use Rattle.hash_store.specs.declared.slot.Slot.{Slot}
 use Rattle.hash_store.specs.declared.slot.Slot.the-variants.{Empty}
-use Rattle.hash_store.specs.Slots.{is-full, steps, spot}
+use Rattle.hash_store.specs.Slots.{is-full, steps}
 use Rattle.hash_store.proofs.Ring.{steps-spot}
 use Rattle.hash_store.proofs.Slotted.{went-round, step-more}
 use Rattle.hash_store.proofs.probe.vacant.Needs as need

@@ -1,13 +1,13 @@
-use mathlib.Core.Bool.{true, false}
-use mathlib.Core.Path.{_≡_, refl, sym, ap, _∙_}
-use Prim.Native.Nat.{_+_, _-_, _<_, _≤_}
+use mathlib.Core.Bool.{false}
+use mathlib.Core.Path.{_≡_, refl, ap, _∙_}
+use Prim.Native.Nat.{_+_, _-_, _<_}
 use native.Mathlib.Omega.{arith}
 use borrow.Author.Needs.{needs}
 use lib.ListN.{length, getD, set}
 use Rattle.std.proofs.shelf.Lists.{getD-default, length-set}
 use Rattle.std.proofs.shelf.Tests.{both-ways}
 use Rattle.hash_store.specs.declared.slot.Slot.the-variants.{Empty, Deleted}
-use Rattle.hash_store.specs.Slots.{is-full, taken}
+use Rattle.hash_store.specs.Slots.{is-full}
 use Rattle.hash_store.proofs.Kept.{taken-some, taken-less, taken-same, settled-set, unlike-set}
 use Rattle.hash_store.proofs.Moved.{moved-length, moved-taken, moved-settled, moved-unlike, moved-strain, moved-hashed, moved-free, emptied-settled, emptied-hashed}
 use Rattle.hash_store.proofs.hash.HashStore.close.Needs as need

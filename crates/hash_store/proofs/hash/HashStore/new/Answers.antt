@@ -1,6 +1,5 @@
-use mathlib.Core.Path.{_≡_, refl, sym}
+use mathlib.Core.Path.{refl, sym}
 use native.Mathlib.Omega.{arith}
-use borrow.Author.Needs.{needs}
 use Rattle.hash_store.specs.declared.slot.Slot.the-variants.{Empty}
 use Rattle.hash_store.proofs.Kept.{all-unfull, unfull-more, taken-none, settled-unfull, unlike-unfull, hashed-unfull}
 use Rattle.hash_store.proofs.hash.HashStore.new.Needs as need

@@ -1,5 +1,5 @@
-use mathlib.Core.Bool.{true, false}
-use mathlib.Core.Path.{_≡_, refl, sym, ap, _∙_, subst}
+use mathlib.Core.Bool.{false}
+use mathlib.Core.Path.{_≡_, refl, sym, ap, _∙_}
 use Prim.Native.Nat.{_<_}
 use native.Mathlib.Omega.{arith}
 use borrow.Author.Needs.{needs}
@@ -7,10 +7,9 @@ use borrow.Author.Count.{below-more}
 use lib.ListN.{length, getD, set}
 use Rattle.std.proofs.shelf.Lists.{length-set, getD-default}
 use Rattle.std.proofs.shelf.Tests.{both-ways}
-use Rattle.hash_store.specs.declared.slot.Slot.{Slot}
 use Rattle.hash_store.specs.declared.slot.Slot.the-variants.{Empty, Deleted}
 use Rattle.hash_store.specs.Slots.{is-full, hashed}
-use Rattle.hash_store.proofs.Kept.{taken-some, taken-less, taken-none, taken-same, settled-set, unlike-set, all-unfull, unfull-taken, unfull-more, settled-unfull, unlike-unfull, hashed-unfull}
+use Rattle.hash_store.proofs.Kept.{taken-some, taken-less, taken-none, taken-same, settled-set, unlike-set, unfull-taken, unfull-more, settled-unfull, unlike-unfull, hashed-unfull}
 use Rattle.hash_store.proofs.hash.methods.HashStoreStore.clear.Needs as need
 use Rattle.hash_store.proofs.hash.methods.HashStoreStore.clear.Needs.{then-is-full, else-is-full}
 

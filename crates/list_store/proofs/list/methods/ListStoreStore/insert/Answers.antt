@@ -1,10 +1,8 @@
-use mathlib.Core.Bool.{cond, true, false}
+use mathlib.Core.Bool.{cond}
 use mathlib.Core.Path.{_≡_, refl, sym, ap, _∙_}
-use borrow.Author.Needs.{needs}
 use native.Mathlib.Omega.{arith}
-use Prim.Native.Nat.{_<_, _+_}
-use lib.ListN.{length, set, take, getD}
-use lib.Dec.{eqb}
+use Prim.Native.Nat.{_<_}
+use lib.ListN.{length, take, getD}
 use Rattle.std.specs.declared.result.Result.the-variants.{Ok, Err}
 use Rattle.std.proofs.shelf.Lists.{length-set, getD-take}
 use Rattle.std.proofs.shelf.Tests.{eq-eqb, ne-eqb}

@@ -1,5 +1,5 @@
 use mathlib.Core.Path.{_≡_}
-use Prim.Native.Nat.{_+_, _≤_}
+use Prim.Native.Nat.{_+_}
 use lib.ListN.{length, take, drop}
 use Rattle.std.specs.shelf.Lists.{removed}
 use Rattle.list_store.proofs.list.methods.ListStoreStore.remove.Given as given
