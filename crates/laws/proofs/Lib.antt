@@ -4,3 +4,4 @@ pub mod Sound
 pub mod Runs
 pub mod Weights
 pub mod Growing
+pub mod Numbering

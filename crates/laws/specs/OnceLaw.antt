@@ -13,6 +13,8 @@ use Rattle.std.specs.declared.option.Option.the-variants.{Some, None}
 use Rattle.tables.specs.declared.row.UnresolvedReference.{UnresolvedReference}
 use Rattle.tables.specs.declared.row.ResolvedReference.{ResolvedReference}
 use Rattle.tables.specs.declared.row.RootReference.{RootReference}
+use Rattle.tables.specs.declared.id.Name.{Name}
+use Rattle.stores.specs.Pairs.{Pairs}
 use Rattle.model.specs.declared.call.Call.{Call}
 use Rattle.model.specs.declared.call.Call.the-variants.{EnterScope, LeaveScope, Bind, DeclareReference, ResolveReferences, ResolveAllReferences}
 use Rattle.model.specs.declared.call.Answer.{Answer}
@@ -101,11 +103,11 @@ Numbered-from n [] size = n ≡ size
 Numbered-from n (k ∷ ks) size = ((k .list < n) × Numbered-from n ks size) ⊎ ((k .list ≡ n) × Numbered-from (suc n) ks size)
 
 -- each list number below the size belongs to exactly one name
-pub record Numbers-right (us : Uses) : Type 0 where
-  pub below : (name n : ℕ) → us .roots .get (the-name name) ≡ Some n → n < us .roots .size
-  pub belongs : (n : ℕ) → n < us .roots .size → (name : ℕ) × (us .roots .get (the-name name) ≡ Some n)
-  pub one-name : (x y n : ℕ) → us .roots .get (the-name x) ≡ Some n → us .roots .get (the-name y) ≡ Some n → x ≡ y
-  pub in-order : Numbered-from 0 (us .root) (us .roots .size)
+pub record Numbers-right (roots : Pairs Name) (root : List RootReference) : Type 0 where
+  pub below : (name n : ℕ) → roots .get (the-name name) ≡ Some n → n < roots .size
+  pub belongs : (n : ℕ) → n < roots .size → (name : ℕ) × (roots .get (the-name name) ≡ Some n)
+  pub one-name : (x y n : ℕ) → roots .get (the-name x) ≡ Some n → roots .get (the-name y) ≡ Some n → x ≡ y
+  pub in-order : Numbered-from 0 root (roots .size)
 
 pub record Placed (names : List ℕ) (nm : Names) (us : Uses) : Type 0 where
   -- however references are weighed, all lists together weigh as much as the accepted references
@@ -119,7 +121,7 @@ pub record Placed (names : List ℕ) (nm : Names) (us : Uses) : Type 0 where
   -- a pending entry has the name that its call gave, and a root row is in the list of that name
   pub pending-names : All (λ (e : UnresolvedReference). e .name .0 ≡ getD names (e .reference .0) 0) (us .pending)
   pub root-names : All (λ (k : RootReference). us .roots .get (the-name (getD names (k .reference .0) 0)) ≡ Some (k .list)) (us .root)
-  pub root-numbers : Numbers-right us
+  pub root-numbers : Numbers-right (us .roots) (us .root)
   -- a resolved reference is in the list of a symbol that is there and has its name
   pub resolved-there : All (λ (j : ResolvedReference). j .symbol .0 < length (nm .symbols)) (us .resolved)
   pub resolved-names : All (λ (j : ResolvedReference). symbol-row nm (j .symbol .0) .name .0 ≡ getD names (j .reference .0) 0) (us .resolved)
