@@ -5,3 +5,4 @@ pub mod Runs
 pub mod Weights
 pub mod Growing
 pub mod Numbering
+pub mod Placing
