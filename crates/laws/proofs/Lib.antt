@@ -6,3 +6,4 @@ pub mod Weights
 pub mod Growing
 pub mod Numbering
 pub mod Placing
+pub mod OnceRuns

@@ -97,3 +97,18 @@ total-parts key bound (x ∷ xs) h =
     (λ t. let l = ap length (cond-is-false (eqb (key x) k) (x ∷ kept-by (λ y. eqb (key y) k) xs) (kept-by (λ y. eqb (key y) k) xs) t) in
     let o = one-apart (key x) k (λ q. eqb-false (key x) k t (sym q)) in omega arith)) in
     omega arith
+
+-- what is not there is not counted
+pub none-counted : {X : Type 0} (col : X → ℕ) (r : ℕ) (xs : List X) → All (λ x. col x ≡ r → ⊥) xs → sum-of col (one r) xs ≡ 0
+none-counted col r [] h = refl
+none-counted col r (x ∷ xs) h = let a = one-apart r (col x) (h .0) in let b = none-counted col r xs (h .1) in omega arith
+
+-- a reference that is only under one key is counted there as often as in all
+pub counted-there : {X : Type 0} (col key : X → ℕ) (r s : ℕ) (xs : List X) → All (λ x. col x ≡ r → key x ≡ s) xs → sum-of col (one r) (kept-by (λ x. eqb (key x) s) xs) ≡ sum-of col (one r) xs
+counted-there col key r s [] h = refl
+counted-there {X} col key r s (x ∷ xs) h =
+    let rest = kept-by (λ (y : X). eqb (key y) s) xs in
+    let a : sum-of col (one r) rest ≡ sum-of col (one r) xs = counted-there col key r s xs (h .1) in
+    cond-both (eqb (key x) s) (x ∷ rest) rest (λ ys. sum-of col (one r) ys ≡ sum-of col (one r) (x ∷ xs))
+    (λ _. omega arith)
+    (λ f. let b = one-apart r (col x) (λ e. eqb-false (key x) s f (h .0 e)) in omega arith)
