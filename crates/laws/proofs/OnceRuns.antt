@@ -24,14 +24,14 @@ use Rattle.model.specs.declared.call.Answer.{Answer}
 use Rattle.model.specs.declared.call.Answer.the-variants.{Counted, Refused}
 use Rattle.model.specs.declared.call.Declaration.{Declaration}
 use Rattle.model.specs.declared.manner.Manner.{Manner}
-use Rattle.model.specs.Basics.{maybe, symbol-number}
+use Rattle.model.specs.Basics.{maybe, symbol-number, the-name}
 use Rattle.model.specs.Kinds.{TypeScript, manner}
 use Rattle.model.specs.State.{Machine, Names, Uses, fresh, no-reference}
 use Rattle.model.specs.Scopes.{is-var, is-strict}
 use Rattle.model.specs.Declaring.{binding}
 use Rattle.model.specs.Resolving.{Fate, resolve-to, list-at-root, stay, settle, settle-all, resolve-end, resolve-here}
 use Rattle.model.specs.Calls.{granted, granted-answer, after, answer, answers, refusal, run, told, with-uses, counted}
-use Rattle.laws.specs.OnceLaw.{is-refusal, name-given, accepted, total, resolved-list, resolved-in-all, listed-in-all, weight, one, sum-of, of-pending, of-resolved, of-root, resolved-to, Placed, Once, is-resolving, Counts-growth, Counts-right}
+use Rattle.laws.specs.OnceLaw.{is-refusal, name-given, accepted, total, resolved-list, numbered-list, root-list, resolved-in-all, listed-in-all, weight, one, sum-of, of-pending, of-resolved, of-root, resolved-to, Placed, Once, is-resolving, Counts-growth, Counts-right}
 use Rattle.laws.proofs.Basics.{none≢some, some-inj}
 use Rattle.laws.proofs.Runs.{Good, after-good, fresh-good, run-good}
 use Rattle.laws.proofs.Growing.{declare-grown}
@@ -148,12 +148,25 @@ module _ (names : List ℕ) (m : Machine) (o : In-order names m) where
         (all-weaker _ _ (λ j h z. some-inj (j .symbol .0) s (sym h ∙ ap (resolved-to (m .uses)) z ∙ e)) (m .uses .resolved) (o .resolved-rows)) in
         omega arith
 
+  -- what is in a root list is in that of its name
+  in-its-root-list : (r : ℕ) → sum-of of-root (one r) (root-list (m .uses) (getD names r 0)) ≡ sum-of of-root (one r) (m .uses .root)
+  in-its-root-list r = go (m .uses .roots .get (the-name (getD names r 0))) refl
+    where
+      go : (l : Option ℕ) → m .uses .roots .get (the-name (getD names r 0)) ≡ l → sum-of of-root (one r) (maybe l [] (numbered-list (m .uses))) ≡ sum-of of-root (one r) (m .uses .root)
+      go None e =
+          sym (none-counted of-root r (m .uses .root)
+          (all-weaker _ _ (λ k h z. none≢some (m .uses .roots .get (the-name (getD names r 0))) (k .list) e (ap (λ x. m .uses .roots .get (the-name (getD names x 0))) (sym z) ∙ h .1)) (m .uses .root) (o .root-named)))
+      go (Some n) e =
+          counted-there of-root (λ (k : RootReference). k .list) r n (m .uses .root)
+          (all-weaker _ _ (λ k h z. some-inj (k .list) n (sym (h .1) ∙ ap (λ x. m .uses .roots .get (the-name (getD names x 0))) z ∙ e)) (m .uses .root) (o .root-named))
+
   pub placed : Placed names (m .names) (m .uses)
   placed =
       let n = o .rows in
       record {
         weighed = λ w. let a = o .weighed w in let b = ap (total w) n in omega arith;
         once = λ r l. let a = o .weighed (one r) in let b = total-one r (length (m .uses .references)) (omega arith) in omega arith;
+        under-its-name = λ r l. let a = o .weighed (one r) in let b = total-one r (length (m .uses .references)) (omega arith) in let t = in-its-root-list r in omega arith;
         no-other = λ r l. let a = o .weighed (one r) in let b = total-one-past r (length (m .uses .references)) (omega arith) in omega arith;
         all = let a = rows-counted in let x = all-resolved in let y = all-listed in omega arith;
         rows = n;

@@ -114,6 +114,9 @@ pub record Placed (names : List ℕ) (nm : Names) (us : Uses) : Type 0 where
   pub weighed : (w : ℕ → ℕ) → weight w us ≡ total w (length names)
   -- so an accepted reference is in exactly one list, once, and no other is in any
   pub once : (r : ℕ) → r < length names → weight (one r) us ≡ 1
+  -- if that is a root list, it is the list of the name that its call gave
+  pub under-its-name : (r : ℕ) → r < length names
+      → sum-of of-pending (one r) (us .pending) + sum-of of-resolved (one r) (us .resolved) + sum-of of-root (one r) (root-list us (getD names r 0)) ≡ 1
   pub no-other : (r : ℕ) → length names ≤ r → weight (one r) us ≡ 0
   -- and so many were accepted as the lists are long
   pub all : length names ≡ length (us .pending) + resolved-in-all nm us + listed-in-all us
