@@ -7,3 +7,4 @@ pub mod Growing
 pub mod Numbering
 pub mod Placing
 pub mod OnceRuns
+pub mod Limits
