@@ -1,10 +1,9 @@
 -- Symbols stay, with their names; and how many symbols and hoisted variables a declaration adds.
-use mathlib.Core.Path.{_≡_, refl, sym, ap, _∙_, subst}
-use mathlib.Core.List.{List, [], _∷_, _++_}
-use mathlib.Core.Bool.{Bool, true, false, cond}
-use Prim.Native.Nat.{ℕ, zero, suc, _+_, _≤_, _<_}
+use mathlib.Core.Path.{_≡_, refl, ap, _∙_}
+use mathlib.Core.List.{List, [], _∷_}
+use Prim.Native.Nat.{ℕ, suc, _+_, _≤_, _<_}
 use native.Mathlib.Omega.{arith}
-use lib.ListN.{length, getD, set, length-append, length-set, List·getD-append}
+use lib.ListN.{length, length-append, length-set, List·getD-append}
 use Rattle.std.proofs.shelf.Tests.{cond-both}
 use Rattle.std.specs.Options.{isSome}
 use Rattle.tables.specs.Flags.{meets, ByValue}

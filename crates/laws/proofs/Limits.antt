@@ -1,14 +1,13 @@
 -- No run goes past the limits.
 use mathlib.Core.Path.{_≡_, refl, sym, ap, _∙_, subst}
-use mathlib.Core.List.{List, [], _∷_, _++_}
-use mathlib.Core.Bool.{Bool, true, false, cond, not, _&&_, _||_}
-use Prim.Native.Nat.{ℕ, zero, suc, _+_, _-_, _≤_, _<_}
+use mathlib.Core.List.{List, [], _∷_}
+use mathlib.Core.Bool.{true, false, cond, not, _||_}
+use Prim.Native.Nat.{ℕ, suc, _+_, _-_, _≤_, _<_}
 use native.Mathlib.Omega.{arith}
 use lib.Dec.{eqb, ltb, leb}
 use lib.ListN.{length, length-append, length-set}
-use Rattle.std.proofs.shelf.Tests.{cond-both, or-parts, ltb-false, leb-false, lt-ltb, le-leb, true≢false}
+use Rattle.std.proofs.shelf.Tests.{cond-both, or-parts, ltb-false, leb-false, lt-ltb, le-leb}
 use Rattle.std.specs.shelf.Lists.{All}
-use Rattle.std.specs.declared.option.Option.{Option}
 use Rattle.std.specs.declared.option.Option.the-variants.{Some, None}
 use Rattle.tables.specs.Flags.{less, all-reference-flags}
 use Rattle.tables.specs.declared.refusal.Refusal.the-variants.{UnlistedBits, UnknownKind, ModifierNotOfKind, SpanReversed, NoSuchScope, DeclarationsFull, ReferencesFull}
@@ -19,13 +18,12 @@ use Rattle.model.specs.declared.call.Declaration.{Declaration}
 use Rattle.model.specs.declared.call.NewReference.{NewReference}
 use Rattle.model.specs.declared.manner.Manner.{Manner}
 use Rattle.model.specs.declared.manner.Manner.the-variants.{Here, Hoisted, MovedOut, Shadow, Conditional}
-use Rattle.model.specs.Kinds.{manner, kind-row, last-kind}
-use Rattle.model.specs.Basics.{maybe}
+use Rattle.model.specs.Kinds.{kind-row, last-kind}
 use Rattle.model.specs.State.{Machine, Names, Uses, fresh}
 use Rattle.model.specs.Scopes.{passed}
 use Rattle.model.specs.Resolving.{Fate, resolve-to, list-at-root, stay, settle, settle-all, resolve-end, resolve-here}
 use Rattle.model.specs.Calls.{Test, _if_, first-of, most-references, refusal, granted, after, run, told, reach, declarations-full, stores-have-room}
-use Rattle.laws.specs.NeverFull.{Has-room, Never-full}
+use Rattle.laws.specs.NeverFull.{Never-full}
 use Rattle.laws.proofs.Basics.{bool-cases, maybe-both, none≢some, cond-is-true}
 use Rattle.laws.proofs.Runs.{run-good, fresh-good}
 use Rattle.laws.proofs.Growing.{hoists, declare-grown}

@@ -2,8 +2,8 @@
 use mathlib.Core.Path.{_≡_, refl, sym, ap, _∙_, subst}
 use mathlib.Core.List.{List, [], _∷_, _++_, append-assoc, append-nil}
 use mathlib.Core.Logic.{⊎-elim}
-use mathlib.Core.Bool.{Bool, true, false, cond}
-use Prim.Native.Nat.{ℕ, zero, suc, _+_, _-_, _≤_, _<_}
+use mathlib.Core.Bool.{true, false, cond}
+use Prim.Native.Nat.{ℕ, _+_, _≤_, _<_}
 use native.Mathlib.Omega.{arith}
 use lib.ListN.{length, getD, length-append, List·getD-eq-default}
 use Rattle.std.proofs.shelf.Tests.{true≢false, cases-lt}
@@ -20,8 +20,7 @@ use Rattle.tables.specs.declared.row.ResolvedReference.{ResolvedReference}
 use Rattle.tables.specs.declared.row.RootReference.{RootReference}
 use Rattle.model.specs.declared.call.Call.{Call}
 use Rattle.model.specs.declared.call.Call.the-variants.{EnterScope, LeaveScope, Bind, DeclareReference, ResolveReferences, ResolveAllReferences}
-use Rattle.model.specs.declared.call.Answer.{Answer}
-use Rattle.model.specs.declared.call.Answer.the-variants.{Counted, Refused}
+use Rattle.model.specs.declared.call.Answer.the-variants.{Refused}
 use Rattle.model.specs.declared.call.Declaration.{Declaration}
 use Rattle.model.specs.declared.manner.Manner.{Manner}
 use Rattle.model.specs.Basics.{maybe, symbol-number, the-name}
@@ -31,7 +30,7 @@ use Rattle.model.specs.Scopes.{is-var, is-strict}
 use Rattle.model.specs.Declaring.{binding}
 use Rattle.model.specs.Resolving.{Fate, resolve-to, list-at-root, stay, settle, settle-all, resolve-end, resolve-here}
 use Rattle.model.specs.Calls.{granted, granted-answer, after, answer, answers, refusal, run, told, with-uses, counted}
-use Rattle.laws.specs.OnceLaw.{is-refusal, name-given, accepted, total, resolved-list, numbered-list, root-list, resolved-in-all, listed-in-all, weight, one, sum-of, of-pending, of-resolved, of-root, resolved-to, Placed, Once, is-resolving, Counts-growth, Counts-right}
+use Rattle.laws.specs.OnceLaw.{is-refusal, name-given, accepted, total, resolved-list, numbered-list, root-list, resolved-in-all, listed-in-all, one, sum-of, of-pending, of-resolved, of-root, resolved-to, Placed, Once, is-resolving, Counts-growth, Counts-right}
 use Rattle.laws.proofs.Basics.{none≢some, some-inj}
 use Rattle.laws.proofs.Runs.{Good, after-good, fresh-good, run-good}
 use Rattle.laws.proofs.Growing.{declare-grown}

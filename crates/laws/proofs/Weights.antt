@@ -1,20 +1,19 @@
 -- References are moved from list to list, and none is lost or doubled. A weight of each reference makes one law of it: the weights
 -- in the three lists together are those of all references.
-use mathlib.Core.Path.{_≡_, refl, sym, ap, _∙_, subst}
-use mathlib.Core.List.{List, [], _∷_, _++_, append-assoc}
-use mathlib.Core.Bool.{Bool, true, false, cond}
+use mathlib.Core.Path.{_≡_, refl, sym, ap, _∙_}
+use mathlib.Core.List.{List, [], _∷_, _++_}
 use mathlib.Core.Logic.{⊎-elim}
 use Prim.Native.Nat.{ℕ, zero, suc, _+_, _≤_, _<_}
 use native.Mathlib.Nat.{not-suc-le-zero}
 use native.Mathlib.Omega.{arith}
 use lib.Dec.{eqb}
-use lib.ListN.{length, getD, set, take, drop, length-append, length-set, take-append-drop}
+use lib.ListN.{length}
 use Rattle.std.proofs.shelf.Tests.{cond-both, cases-eq, cases-lt, eqb-true, eqb-false, eq-eqb, ne-eqb}
 use Rattle.std.specs.shelf.Lists.{All, kept-by}
 use Rattle.tables.specs.declared.row.UnresolvedReference.{UnresolvedReference}
 use Rattle.model.specs.State.{Names, Uses}
 use Rattle.model.specs.Resolving.{Fate, resolve-to, list-at-root, stay, settle, settle-all}
-use Rattle.laws.specs.OnceLaw.{total, sum-of, of-pending, of-resolved, of-root, weight, one}
+use Rattle.laws.specs.OnceLaw.{total, sum-of, of-pending, weight, one}
 use Rattle.laws.proofs.Basics.{bool-cases, cond-is-true, cond-is-false}
 
 pub sum-append : {X : Type 0} (col : X → ℕ) (w : ℕ → ℕ) (xs ys : List X) → sum-of col w (xs ++ ys) ≡ sum-of col w xs + sum-of col w ys
