@@ -2,3 +2,9 @@ pub mod Basics
 pub mod Tree
 pub mod Sound
 pub mod Runs
+pub mod Weights
+pub mod Growing
+pub mod Numbering
+pub mod Placing
+pub mod OnceRuns
+pub mod Limits

@@ -1,1 +1,3 @@
 pub mod BindingsLaw
+pub mod OnceLaw
+pub mod NeverFull
