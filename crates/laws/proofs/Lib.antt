@@ -8,3 +8,4 @@ pub mod Numbering
 pub mod Placing
 pub mod OnceRuns
 pub mod Limits
+pub mod LongerRuns

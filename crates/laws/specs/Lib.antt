@@ -1,3 +1,4 @@
 pub mod BindingsLaw
 pub mod OnceLaw
 pub mod NeverFull
+pub mod LongerRuns

@@ -2,3 +2,4 @@
 
 pub mod apply;
 pub mod binding;
+pub mod run;
