@@ -15,7 +15,12 @@ use std::alloc::Global;
 
 /// Restarts the binder under a setting, makes the calls one after the other, and gives their answers.
 /// The memory for the answers is taken first: without it the binder is as it was, and no call is made.
-pub fn run<T: Binding>(heap: Global, binder: &mut T, setting: Setting, calls: &[Call]) -> Result<Vec<Answer>, AllocError>
+pub fn run<T: Binding>(
+    heap: Global,
+    binder: &mut T,
+    setting: Setting,
+    calls: &[Call],
+) -> Result<Vec<Answer>, AllocError>
     ensures answered { λ r. ⌜ made r (λ v. vec-items v ≡ reference-answers (fresh (setting .bits)) (now (calls .entry))) ⌝ }
     ensures after { λ r. ⌜ Cases r (λ _. T·Binding .state (now (binder .exit)) ≡ reference-run (fresh (setting .bits)) (now (calls .entry))) (λ _. now (binder .exit) ≡ now (binder .entry)) ⌝ }
 {
