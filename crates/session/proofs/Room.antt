@@ -30,7 +30,7 @@ module _ (setting : ℕ) (cs : List Call) (c : Call) where
   same-refusal =
       with-room (refusal (run (fresh setting) cs) c) (stores-have-room (run (fresh setting) cs) c) (never-full-law setting cs .for-call c)
 
-  same-after : builder-after (run (fresh setting) cs) c ≡ after (run (fresh setting) cs) c
+  pub same-after : builder-after (run (fresh setting) cs) c ≡ after (run (fresh setting) cs) c
   unfolding builder-after after
   same-after = ap {B = Machine} (λ why. maybe why (granted (run (fresh setting) cs) c) (λ n. run (fresh setting) cs)) same-refusal
 
