@@ -5,6 +5,7 @@ ghost use Rattle.std.specs.Results.{Cases};
 ghost use Rattle.std.specs.Vec.{made};
 ghost use Rattle.model.specs.State.{fresh};
 ghost use Rattle.model.specs.Calls.{run as reference-run, answers as reference-answers};
+ghost use Rattle.session.specs.Laws.{Ran};
 use crate::apply::apply;
 use crate::binding::Binding;
 use model::call::Answer;
@@ -23,6 +24,7 @@ pub fn run<T: Binding>(
 ) -> Result<Vec<Answer>, AllocError>
     ensures answered { λ r. ⌜ made r (λ v. vec-items v ≡ reference-answers (fresh (setting .bits)) (now (calls .entry))) ⌝ }
     ensures after { λ r. ⌜ Cases r (λ _. T·Binding .state (now (binder .exit)) ≡ reference-run (fresh (setting .bits)) (now (calls .entry))) (λ _. now (binder .exit) ≡ now (binder .entry)) ⌝ }
+    ensures lawful { λ r. ⌜ made r (λ v. Ran (setting .bits) (now (calls .entry)) (T·Binding .state (now (binder .exit))) (vec-items v)) ⌝ }
 {
     let mut answers = Vec::with_capacity(heap, calls.len())?;
     binder.restart(setting);
