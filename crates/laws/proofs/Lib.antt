@@ -1,1 +1,5 @@
 mod ScriptsComputed
+pub mod Basics
+pub mod Tree
+pub mod Sound
+pub mod Runs
