@@ -3,3 +3,5 @@ pub mod Basics
 pub mod Tree
 pub mod Sound
 pub mod Runs
+mod FlagBits
+mod FlagWords

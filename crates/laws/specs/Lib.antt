@@ -1,3 +1,5 @@
+pub mod HasFlag
 pub mod KindNames
 pub mod Scripts
+pub mod Words
 pub mod BindingsLaw
