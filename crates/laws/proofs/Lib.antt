@@ -5,3 +5,4 @@ pub mod Sound
 pub mod Runs
 mod FlagBits
 mod FlagWords
+mod RefusedExactly

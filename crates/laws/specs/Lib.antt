@@ -2,4 +2,5 @@ pub mod HasFlag
 pub mod KindNames
 pub mod Scripts
 pub mod Words
+pub mod Refused
 pub mod BindingsLaw
