@@ -6,13 +6,13 @@ use mathlib.Core.Path.{_≡_, refl, sym, ap, ap₂, _∙_, subst}
 use mathlib.Core.Logic.{⊎-elim}
 use lib.Bits.{bitOr}
 use lib.Dec.{eqb}
-use Rattle.std.proofs.shelf.Tests.{eqb-true, true≢false, and-parts, and-from, and-left, and-right, or-parts, or-left, or-right, or-from, or-cases, cond-true, cond-false, cases-bool}
+use Rattle.std.proofs.shelf.Tests.{eqb-true, true≢false, and-parts, and-from, and-left, and-right, or-parts, or-left, or-right, or-from, or-cases, cond-true, cond-false}
 use Rattle.tables.specs.Flags.{meets, less, Read, Write, TypeUse, ValueAsType, NamespaceUse, ValueUse, ByValue, ByType, ByValueAsType, ByNamespace, Import, TypeImport, RegularEnum, ConstEnum, Class, TypeAlias, Interface, EnumMember, TypeParameter, FunctionScopedVariable, Ambient, AsyncOrGenerator}
-use Rattle.model.specs.Kinds.{Declare, Async, IfBody, Unique, includes, excludes, kind-row}
+use Rattle.model.specs.Kinds.{Declare, Async, IfBody, Unique, excludes, kind-row}
 use Rattle.model.specs.Resolving.{can-resolve, resolved-flags}
 use Rattle.laws.specs.HasFlag.{has, has-one, among, Is-flag}
 use Rattle.laws.specs.KindNames.{function-kind, parameter-kind}
-use Rattle.laws.specs.Words.{is-value, is-type, has-typeof, has-members, uses-value, Can-resolve-to, Resolved-flags, Loses-type, Type-alone, Excluded, Given, Gives, Flags-in-words}
+use Rattle.laws.specs.Words.{is-value, is-type, has-typeof, has-members, uses-value, Can-resolve-to, Resolved-flags, Loses-type, Type-alone, Excluded, Given, Names-of-flags, Flags-in-words}
 use Rattle.laws.proofs.FlagBits.{meets-flag, meets-set, set-has, flag-has, less-has, or-has, nothing-has, flags-at, union}
 
 -- can resolve to
@@ -214,5 +214,14 @@ given =
       by-infer = gives (15 ∷ []);
     }
 
+pub names-of-flags : Names-of-flags
+names-of-flags =
+    record {
+      of-scopes = record { single = ((0, refl), ((1, refl), ((2, refl), ((3, refl), ((4, refl), ((5, refl), ((6, refl), ((7, refl), ((8, refl), ((9, refl), ((10, refl), ((11, refl), tt)))))))))))); apart = refl };
+      of-references = record { single = ((0, refl), ((1, refl), ((2, refl), ((3, refl), ((4, refl), tt))))); apart = refl };
+      of-symbols = record { single = ((0, refl), ((1, refl), ((2, refl), ((3, refl), ((4, refl), ((5, refl), ((6, refl), ((7, refl), ((8, refl), ((9, refl), ((10, refl), ((11, refl), ((12, refl), ((13, refl), ((14, refl), ((15, refl), ((16, refl), tt))))))))))))))))); apart = refl };
+      of-modifiers = record { single = ((0, refl), ((1, refl), ((2, refl), ((3, refl), tt)))); apart = refl };
+    }
+
 pub flags-in-words : Flags-in-words
-flags-in-words = record { can-resolve-to = can-resolve-to; resolved-to = flags-afterwards; excluded = excluded; given = given }
+flags-in-words = record { names-of-flags = names-of-flags; can-resolve-to = can-resolve-to; resolved-to = flags-afterwards; excluded = excluded; given = given }

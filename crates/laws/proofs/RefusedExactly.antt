@@ -1,13 +1,13 @@
 -- Each test of the machine is the condition of its row.
-use Prim.Native.Nat.{ℕ, zero, suc, _+_, _-_, _*_, _/_, _%_, _^_, _≤_, _<_}
-use mathlib.Core.Bool.{Bool, true, false, cond, not, _&&_, _||_}
+use Prim.Native.Nat.{ℕ, zero, suc, _+_, _-_, _/_, _%_, _^_, _≤_, _<_}
+use mathlib.Core.Bool.{Bool, true, false, not, _&&_, _||_}
 use mathlib.Core.List.{List, [], _∷_}
-use mathlib.Core.Logic.{_≢_, _⊎_, inl, inr, ⊎-elim, _↔_}
+use mathlib.Core.Logic.{_≢_, _⊎_, inl, inr, ⊎-elim}
 use mathlib.Core.Path.{_≡_, refl, sym, ap, ap₂, _∙_, subst}
 use native.Mathlib.Omega.{arith}
 use lib.Dec.{eqb, ltb, leb}
 use lib.ListN.{length}
-use Rattle.std.proofs.shelf.Tests.{eq-eqb, ne-eqb, eqb-true, eqb-false, ltb-true, ltb-false, leb-true, leb-false, lt-ltb, le-ltb, le-leb, lt-leb, true≢false, cases-bool, cases-eq, cases-lt, or-cases, or-parts, or-left, or-right, and-parts, and-cases, and-from, and-left, and-right, not-true, not-false, cond-true, cond-false, or-from}
+use Rattle.std.proofs.shelf.Tests.{eq-eqb, ne-eqb, eqb-true, eqb-false, ltb-true, ltb-false, leb-true, leb-false, true≢false, cases-bool, cases-eq, cases-lt, or-cases, or-parts, and-parts, and-cases, and-left, not-true, not-false, cond-true, cond-false, or-from}
 use Rattle.std.proofs.shelf.Bits.{pow-pos, pow-below, le-div, div-below, shr-shr}
 use Rattle.std.specs.declared.option.Option.{Option}
 use Rattle.std.specs.declared.option.Option.the-variants.{Some, None}
@@ -16,19 +16,19 @@ use Rattle.tables.specs.declared.refusal.Refusal.the-variants.{UnlistedBits, Un
 use Rattle.model.specs.declared.call.Call.{Call}
 use Rattle.model.specs.declared.call.Call.the-variants.{EnterScope, LeaveScope, Bind, DeclareReference, ResolveReferences, ResolveAllReferences}
 use Rattle.model.specs.declared.call.Answer.{Answer}
-use Rattle.model.specs.declared.call.Answer.the-variants.{Scope, Symbol, Reference, Counted, Refused}
+use Rattle.model.specs.declared.call.Answer.the-variants.{Refused}
 use Rattle.tables.specs.Flags.{less, all-scope-flags, all-reference-flags}
 use Rattle.model.specs.Kinds.{Declare, Async, IfBody, Unique, kind-row, last-kind}
 use Rattle.model.specs.Basics.{maybe}
 use Rattle.tables.specs.declared.row.ScopeRow.{ScopeRow}
-use Rattle.model.specs.State.{Machine, Names, Uses, fresh}
+use Rattle.model.specs.State.{Machine, fresh}
 use Rattle.model.specs.Scopes.{parent-of, flags-in, is-var, passed}
 use Rattle.model.specs.Calls.{Test, first-of, refusal, after, answer, granted, granted-answer, reach, declarations-full, run, _if_, most-scopes, most-references}
 use Rattle.laws.proofs.Basics.{none≢some, some-inj, option-cases, bool-cases}
 use Rattle.laws.proofs.Tree.{Tree, has-parent, passed-here, passed-up}
 use Rattle.laws.proofs.Runs.{Good, fresh-good, run-good}
 use Rattle.laws.proofs.FlagBits.{meets-set, set-has, flag-has, less-has, nothing-has, some-flag}
-use Rattle.laws.specs.HasFlag.{has, has-one, among, Is-flag}
+use Rattle.laws.specs.HasFlag.{has, among}
 use Rattle.laws.specs.KindNames.{function-kind, parameter-kind, var-kind}
 use Rattle.laws.specs.Refused.{Row, First-is, None-holds, table, Refuses-exactly, Refused-exactly, Has-unlisted, listed-scope-flags, listed-reference-flags, Known-kind, ambient-kinds, async-kinds, takes, Has-foreign-modifier, holds-vars, Way-to-var-scope, here, up, Writes-to, No-room}
 

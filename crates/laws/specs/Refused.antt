@@ -6,17 +6,16 @@ use mathlib.Core.Logic.{_≢_, _⊎_, _↔_}
 use mathlib.Core.Path.{_≡_}
 use lib.Dec.{eqb}
 use lib.ListN.{length}
-use Rattle.std.specs.declared.option.Option.the-variants.{Some, None}
+use Rattle.std.specs.declared.option.Option.the-variants.{Some}
 use Rattle.tables.specs.Flags.{StrictMode, Top, Function, Arrow, ClassStaticBlock, TsModuleBlock, Constructor, GetAccessor, SetAccessor, CatchClause, DirectEval, TsConditional, Read, Write, TypeUse, ValueAsType, NamespaceUse}
 use Rattle.tables.specs.declared.row.ScopeRow.{ScopeRow}
 use Rattle.tables.specs.declared.refusal.Refusal.{Refusal}
 use Rattle.tables.specs.declared.refusal.Refusal.the-variants.{UnlistedBits, UnknownKind, ModifierNotOfKind, SpanReversed, NoSuchScope, ScopesFull, DeclarationsFull, ReferencesFull, AtRoot, StartPastPending}
-use Rattle.model.specs.declared.call.Declaration.{Declaration}
 use Rattle.model.specs.declared.call.Call.{Call}
 use Rattle.model.specs.declared.call.Call.the-variants.{EnterScope, LeaveScope, Bind, DeclareReference, ResolveReferences, ResolveAllReferences}
 use Rattle.model.specs.declared.call.Answer.the-variants.{Refused}
 use Rattle.model.specs.Kinds.{Declare, Async, IfBody, Unique}
-use Rattle.model.specs.State.{Machine, Names, Uses, fresh}
+use Rattle.model.specs.State.{Machine, fresh}
 use Rattle.model.specs.Scopes.{parent-of, flags-in}
 use Rattle.model.specs.Calls.{after, answer, run}
 use Rattle.laws.specs.HasFlag.{has, has-one, among, Is-flag}

@@ -1,7 +1,7 @@
 -- Eleven scripts in plain JavaScript, what each call answers, and all tables that they leave.
 -- Every declaration has a span and a node of its own, so that one cannot stand for another.
 use Prim.Native.Nat.{ℕ, _+_}
-use mathlib.Core.Bool.{Bool, cond, _&&_}
+use mathlib.Core.Bool.{cond, _&&_}
 use mathlib.Core.List.{List, [], _∷_}
 use mathlib.Core.Path.{_≡_}
 use mathlib.Core.Logic.{_≢_}
@@ -27,7 +27,7 @@ use Rattle.model.specs.declared.call.Call.the-variants.{EnterScope, LeaveScope,
 use Rattle.model.specs.declared.call.Answer.{Answer}
 use Rattle.model.specs.declared.call.Answer.the-variants.{Scope, Symbol, Reference, Counted, Refused}
 use Rattle.model.specs.Basics.{the-scope, the-symbol, the-reference, the-node, the-name, scope-flags, symbol-flags, reference-flags, place}
-use Rattle.model.specs.State.{Machine, Names, Uses, fresh}
+use Rattle.model.specs.State.{Machine, fresh}
 use Rattle.model.specs.Calls.{run, answers}
 use Rattle.laws.specs.KindNames.{var-kind, let-kind, function-expression-kind, catch-name-kind, interface-kind}
 

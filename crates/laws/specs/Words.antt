@@ -5,10 +5,10 @@ use mathlib.Core.Bool.{Bool, true, false, not, _&&_, _||_}
 use mathlib.Core.List.{List, [], _∷_}
 use mathlib.Core.Path.{_≡_}
 use lib.Dec.{eqb}
-use Rattle.tables.specs.Flags.{meets, Read, Write, TypeUse, ValueAsType, NamespaceUse, FunctionScopedVariable, BlockScopedVariable, ConstVariable, Class, CatchVariable, FunctionSymbol, FunctionExpression, AsyncOrGenerator, Import, TypeImport, TypeAlias, Interface, RegularEnum, ConstEnum, EnumMember, TypeParameter, Ambient}
+use Rattle.tables.specs.Flags.{meets, StrictMode, Top, Function, Arrow, ClassStaticBlock, TsModuleBlock, Constructor, GetAccessor, SetAccessor, CatchClause, DirectEval, TsConditional, Read, Write, TypeUse, ValueAsType, NamespaceUse, FunctionScopedVariable, BlockScopedVariable, ConstVariable, Class, CatchVariable, FunctionSymbol, FunctionExpression, AsyncOrGenerator, Import, TypeImport, TypeAlias, Interface, RegularEnum, ConstEnum, EnumMember, TypeParameter, Ambient}
 use Rattle.model.specs.Kinds.{Declare, Async, IfBody, Unique, includes, excludes}
 use Rattle.model.specs.Resolving.{can-resolve, resolved-flags}
-use Rattle.laws.specs.HasFlag.{has, has-one, among, Is-flag}
+use Rattle.laws.specs.HasFlag.{has, has-one, among, Is-flag, Single-flags}
 use Rattle.laws.specs.KindNames.{var-kind, let-kind, const-kind, class-kind, function-kind, function-expression-kind, parameter-kind, catch-name-kind, catch-pattern-kind, import-kind, type-import-kind, type-alias-kind, interface-kind, enum-kind, const-enum-kind, enum-member-kind, type-parameter-kind, infer-kind}
 
 -- symbols
@@ -198,7 +198,16 @@ pub record Given : Type 0 where
   pub by-type-parameter : Gives type-parameter-kind (TypeParameter ∷ [])
   pub by-infer : Gives infer-kind (TypeParameter ∷ [])
 
+-- the names are of single flags, each its own
+
+pub record Names-of-flags : Type 0 where
+  pub of-scopes : Single-flags (StrictMode ∷ Top ∷ Function ∷ Arrow ∷ ClassStaticBlock ∷ TsModuleBlock ∷ Constructor ∷ GetAccessor ∷ SetAccessor ∷ CatchClause ∷ DirectEval ∷ TsConditional ∷ [])
+  pub of-references : Single-flags (Read ∷ Write ∷ TypeUse ∷ ValueAsType ∷ NamespaceUse ∷ [])
+  pub of-symbols : Single-flags (FunctionScopedVariable ∷ BlockScopedVariable ∷ ConstVariable ∷ Class ∷ CatchVariable ∷ FunctionSymbol ∷ FunctionExpression ∷ AsyncOrGenerator ∷ Import ∷ TypeImport ∷ TypeAlias ∷ Interface ∷ RegularEnum ∷ ConstEnum ∷ EnumMember ∷ TypeParameter ∷ Ambient ∷ [])
+  pub of-modifiers : Single-flags (Declare ∷ Async ∷ IfBody ∷ Unique ∷ [])
+
 pub record Flags-in-words : Type 0 where
+  pub names-of-flags : Names-of-flags
   pub can-resolve-to : Can-resolve-to
   pub resolved-to : Resolved-flags
   pub excluded : Excluded
