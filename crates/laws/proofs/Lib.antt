@@ -1,3 +1,4 @@
+mod ScriptsComputed
 pub mod Basics
 pub mod Tree
 pub mod Sound
@@ -9,3 +10,6 @@ pub mod Placing
 pub mod OnceRuns
 pub mod Limits
 pub mod LongerRuns
+mod FlagBits
+mod FlagWords
+mod RefusedExactly

@@ -1,3 +1,8 @@
+pub mod HasFlag
+pub mod KindNames
+pub mod Scripts
+pub mod Words
+pub mod Refused
 pub mod BindingsLaw
 pub mod OnceLaw
 pub mod NeverFull

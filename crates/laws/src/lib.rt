@@ -4,3 +4,6 @@ pub mod bindings;
 pub mod longer;
 pub mod never_full;
 pub mod once;
+pub mod refused;
+pub mod scripts;
+pub mod words;
