@@ -2,3 +2,4 @@ pub mod Basics
 pub mod Tree
 pub mod Sound
 pub mod Runs
+pub mod Searching
