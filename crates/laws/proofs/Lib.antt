@@ -3,3 +3,5 @@ pub mod Tree
 pub mod Sound
 pub mod Runs
 pub mod Searching
+pub mod Single
+pub mod Settling
