@@ -5,3 +5,5 @@ pub mod Runs
 pub mod Searching
 pub mod Single
 pub mod Settling
+pub mod FirstFit
+pub mod PlacedByACall

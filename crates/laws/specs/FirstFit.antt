@@ -9,6 +9,7 @@ use Rattle.std.specs.declared.option.Option.the-variants.{Some, None}
 use Rattle.tables.specs.Flags.{meets, FunctionExpression}
 use Rattle.tables.specs.declared.refusal.Refusal.{Refusal}
 use Rattle.tables.specs.declared.id.Name.{Name}
+use Rattle.tables.specs.declared.id.ReferenceId.{ReferenceId}
 use Rattle.tables.specs.declared.row.ReferenceRow.{ReferenceRow}
 use Rattle.tables.specs.declared.row.UnresolvedReference.{UnresolvedReference}
 use Rattle.tables.specs.declared.row.ResolvedReference.{ResolvedReference}
@@ -139,7 +140,7 @@ pub record First-fit-right (m : Machine) : Type 0 where
   pub resolve-in-scope : (start : ℕ) → Granted m (ResolveReferences start) → Settles m (Below m (m .current)) start (after m (ResolveReferences start) .uses)
   pub resolve-all : Settles m (λ _. Unit) 0 (after m ResolveAllReferences .uses)
   pub all-settled : after m ResolveAllReferences .uses .pending ≡ []
-  pub none-to-resolve : after m (ResolveReferences (length (m .uses .pending))) ≡ m
+  pub none-to-resolve : Granted m (ResolveReferences (length (m .uses .pending))) × (after m (ResolveReferences (length (m .uses .pending))) ≡ m)
   -- one entry at the end of the pending list, and its row without a symbol
   pub declare-reference : (r : NewReference) → Granted m (DeclareReference r) → after m (DeclareReference r) .uses ≡ record {
     references = m .uses .references ++ record { node = r .node; flags = r .flags; symbol = None } ∷ [];
@@ -157,3 +158,49 @@ pub record First-fit-right (m : Machine) : Type 0 where
 
 abbrev pub First-fit : Type 0
 First-fit = (setting : ℕ) (cs : List Call) → First-fit-right (run (fresh setting) cs)
+
+-- the scopes in which a call looks for bindings
+abbrev pub Looks-in : Machine → Call → ℕ → Type 0
+Looks-in m (EnterScope x) s = ⊥
+Looks-in m LeaveScope s = ⊥
+Looks-in m (Bind d) s = ⊥
+Looks-in m (DeclareReference r) s = ⊥
+Looks-in m (ResolveReferences start) s = Below m (m .current) s
+Looks-in m ResolveAllReferences s = Unit
+
+-- the reference is in no symbol's resolved list, and in no root list
+pub record Unplaced (us : Uses) (r : ReferenceId) : Type 0 where
+  pub not-resolved : (j : ResolvedReference) → j ∈ (us .resolved) → j .reference ≡ r → ⊥
+  pub not-listed : (k : RootReference) → k ∈ (us .root) → k .reference ≡ r → ⊥
+
+-- the call resolved a pending reference that was in no such list
+pub record Resolved-by (m : Machine) (c : Call) (j : ResolvedReference) : Type 0 where
+  pub entry : UnresolvedReference
+  pub waited : entry ∈ (m .uses .pending)
+  pub unplaced : Unplaced (m .uses) (j .reference)
+  pub placed : j ∈ (after m c .uses .resolved)
+  pub fits : Resolved-as m (Looks-in m c) (after m c .uses) entry j
+
+-- the call root-listed one
+pub record Listed-by (m : Machine) (c : Call) (k : RootReference) : Type 0 where
+  pub entry : UnresolvedReference
+  pub waited : entry ∈ (m .uses .pending)
+  pub unplaced : Unplaced (m .uses) (k .reference)
+  pub placed : k ∈ (after m c .uses .root)
+  pub fits : Root-listed-as m (Looks-in m c) (after m c .uses) entry k
+
+-- some call of cs, from m on, did it
+pub record Some-call (m : Machine) (cs : List Call) (Did : Machine → Call → Type 0) : Type 0 where
+  pub before : List Call
+  pub call : Call
+  pub rest : List Call
+  pub divided : cs ≡ before ++ call ∷ rest
+  pub did : Did (run m before) call
+
+-- each reference in a resolved list or a root list was put there by a call, by the tables at that call's entry
+pub record Placed-by-a-call-right (setting : ℕ) (cs : List Call) : Type 0 where
+  pub resolved : (j : ResolvedReference) → j ∈ (run (fresh setting) cs .uses .resolved) → Some-call (fresh setting) cs (λ m c. Resolved-by m c j)
+  pub listed : (k : RootReference) → k ∈ (run (fresh setting) cs .uses .root) → Some-call (fresh setting) cs (λ m c. Listed-by m c k)
+
+abbrev pub Placed-by-a-call : Type 0
+Placed-by-a-call = (setting : ℕ) (cs : List Call) → Placed-by-a-call-right setting cs
