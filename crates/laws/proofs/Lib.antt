@@ -7,3 +7,4 @@ pub mod Single
 pub mod Settling
 pub mod FirstFit
 pub mod PlacedByACall
+pub mod Valued

@@ -1,2 +1,3 @@
 pub mod BindingsLaw
 pub mod FirstFit
+pub mod GetIdentifierReference
