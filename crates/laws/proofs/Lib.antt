@@ -8,3 +8,4 @@ pub mod Settling
 pub mod FirstFit
 pub mod PlacedByACall
 pub mod Valued
+pub mod GetIdentifierReference

@@ -32,7 +32,7 @@ mem-take (suc n) [] x h = h
 mem-take (suc n) (y ∷ xs) x h = ⊎-elim List·Memᴰ·head (λ k. List·Memᴰ·tail (mem-take n xs x k)) (List·Memᴰ·cases-cons h)
 
 -- a pending reference is in no other list
-unplaced : (m : Machine) → Kept-single m → (e : UnresolvedReference) → e ∈ (m .uses .pending) → (r : ReferenceId) → e .reference ≡ r → Unplaced (m .uses) r
+pub unplaced : (m : Machine) → Kept-single m → (e : UnresolvedReference) → e ∈ (m .uses .pending) → (r : ReferenceId) → e .reference ≡ r → Unplaced (m .uses) r
 unplaced m o e h r q =
     let a = o .once (r .0) in
     let b = times-there of-pending (r .0) (m .uses .pending) e h (ap (λ (x : ReferenceId). x .0) q) in

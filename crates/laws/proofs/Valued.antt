@@ -7,9 +7,10 @@ use Prim.Native.Nat.{ℕ, zero, suc, _+_, _*_, _/_, _%_, _≤_, _<_}
 use native.Mathlib.Omega.{arith}
 use lib.Bits.{bitAnd, bitOr, and-step, or-step, and-zero-r}
 use lib.Dec.{eqb, ltb}
-use lib.ListN.{length, getD, set, length-append, length-set, List·getD-append}
+use lib.ListN.{length, getD, set, take, drop, length-append, length-set, List·getD-append}
 use lib.Seq.{getD-append-seam, getD-set-same, getD-set-other}
 use Rattle.std.proofs.shelf.Tests.{cond-both, true≢false, eqb-true, eqb-false, eq-eqb, ne-eqb, cases-eq, cases-lt}
+use Rattle.std.specs.shelf.Lists.{All}
 use Rattle.std.specs.Options.{isSome}
 use Rattle.std.specs.declared.option.Option.{Option}
 use Rattle.std.specs.declared.option.Option.the-variants.{Some, None}
@@ -20,7 +21,7 @@ use Rattle.tables.specs.declared.row.SymbolRow.{SymbolRow}
 use Rattle.model.specs.declared.manner.Manner.{Manner}
 use Rattle.model.specs.declared.manner.Manner.the-variants.{Here, Hoisted, MovedOut, Shadow, Conditional}
 use Rattle.model.specs.Basics.{maybe, the-name, the-scope, the-node, symbol-flags}
-use Rattle.model.specs.Kinds.{Declare, Async, includes, kind-row}
+use Rattle.model.specs.Kinds.{Declare, Async, Kind-row, kind, kinds, kind-row, includes}
 use Rattle.model.specs.State.{Names, no-symbol, symbol-row, flags-of}
 use Rattle.model.specs.Scopes.{passed, target, conditional-scope}
 use Rattle.model.specs.Declaring.{Told, Declared, binding, relocate, complain, add-symbol-redeclaration, unite, found, declare-shadow-symbol, declare-symbol-on-scope, move-binding, scan, hoist-all, with-hoisted, with-scope, declare-var, declare-moved-out, declare}
@@ -144,3 +145,22 @@ module _ (name : ℕ) where
         same-valued moved (with-hoisted moved here (d .name) (r .symbol)) refl (move-valued (r .names) here (target rows here) (d .name) (r .symbol) w))
     declare-valued Shadow rows here nm v = shadow-valued nm here v
     declare-valued Conditional rows here nm v = on-scope-valued nm (conditional-scope rows here) v
+
+abbrev Gives-value : Kind-row → Type 0
+Gives-value r = meets (r .includes) ByValue ≡ true
+
+among-first : (n i : ℕ) (xs : List Kind-row) (d : Kind-row) → i < n → n ≤ length xs → All Gives-value (take n xs) → Gives-value (getD xs i d)
+among-first zero i xs d l h a = absurd (omega arith)
+among-first (suc n) i [] d l h a = absurd (omega arith)
+among-first (suc n) zero (x ∷ xs) d l h a = a .0
+among-first (suc n) (suc i) (x ∷ xs) d l h a = among-first n i xs d (omega arith) (omega arith) (a .1)
+
+-- the kinds 1 to 10 give values
+kind-value : (k : ℕ) → (k ≡ 0 → ⊥) → k < 11 → Gives-value (kind-row k)
+kind-value zero z l = absurd (z refl)
+kind-value (suc i) z l = among-first 10 i (drop 1 kinds) (kind 0 0 0) (omega arith) (omega arith) (refl, (refl, (refl, (refl, (refl, (refl, (refl, (refl, (refl, (refl, tt))))))))))
+
+pub includes-value : (k modifiers : ℕ) → (k ≡ 0 → ⊥) → k < 11 → meets (includes k modifiers) ByValue ≡ true
+includes-value k modifiers z l =
+    meets-more (bitOr (kind-row k .includes) (cond (meets modifiers Declare) Ambient 0)) (cond (meets modifiers Async) AsyncOrGenerator 0) ByValue
+    (meets-more (kind-row k .includes) (cond (meets modifiers Declare) Ambient 0) ByValue (kind-value k z l))

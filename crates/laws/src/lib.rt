@@ -2,3 +2,4 @@
 
 pub mod bindings;
 pub mod first_fit;
+pub mod get_identifier_reference;
