@@ -13,3 +13,10 @@ pub mod LongerRuns
 mod FlagBits
 mod FlagWords
 mod RefusedExactly
+pub mod Searching
+pub mod Single
+pub mod Settling
+pub mod FirstFit
+pub mod PlacedByACall
+pub mod Valued
+pub mod GetIdentifierReference

@@ -7,3 +7,5 @@ pub mod BindingsLaw
 pub mod OnceLaw
 pub mod NeverFull
 pub mod LongerRuns
+pub mod FirstFit
+pub mod GetIdentifierReference

@@ -7,3 +7,5 @@ pub mod once;
 pub mod refused;
 pub mod scripts;
 pub mod words;
+pub mod first_fit;
+pub mod get_identifier_reference;
