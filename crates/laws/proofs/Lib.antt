@@ -2,3 +2,5 @@ pub mod Basics
 pub mod Tree
 pub mod Sound
 pub mod Runs
+pub mod FlagSets
+pub mod ComesUpon

@@ -1,1 +1,2 @@
 pub mod BindingsLaw
+pub mod Conflicts
