@@ -4,3 +4,5 @@ pub mod Sound
 pub mod Runs
 pub mod FlagSets
 pub mod ComesUpon
+pub mod Scanning
+pub mod Written
