@@ -6,3 +6,4 @@ pub mod FlagSets
 pub mod ComesUpon
 pub mod Scanning
 pub mod Written
+pub mod Forms

@@ -66,8 +66,10 @@ module _ (rows : List ScopeRow) (tree : Tree rows) where
     scan-comes-to nm t zero s h lies goal = absurd (not-suc-le-zero h)
     scan-comes-to nm t (suc f) s h lies goal =
         bool-cases (is-var rows s) (Scan-comes-to nm t s (scan d t nm (passed rows s)))
-        (λ v. inr (subst (λ x. Reaches rows nm (d .name) t x) (sym goal ∙ target-here rows tree s v) (reached (ap (is-var rows) (sym goal ∙ target-here rows tree s v) ∙ v)),
-        ap (scan d t nm) (passed-here rows tree s v)))
+        (λ v. inr (
+          subst (λ x. Reaches rows nm (d .name) t x) (sym goal ∙ target-here rows tree s v) (reached (ap (is-var rows) (sym goal ∙ target-here rows tree s v) ∙ v)),
+          ap (scan d t nm) (passed-here rows tree s v),
+        ))
         (λ v. let q : (p : ℕ) × (parent-of rows s ≡ Some p) = has-parent rows tree s lies v in
         let l : q .0 < s = tree .lower s (q .0) (q .1) in
         let ps = passed rows (q .0) in
