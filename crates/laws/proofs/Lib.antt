@@ -7,3 +7,4 @@ pub mod ComesUpon
 pub mod Scanning
 pub mod Written
 pub mod Forms
+pub mod Outcomes

@@ -1,3 +1,4 @@
 //! The laws over runs of the reference machine. Each theorem is the contract of a small function, so that the check asks for its proof.
 
 pub mod bindings;
+pub mod conflicts;
