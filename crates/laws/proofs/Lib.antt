@@ -8,3 +8,4 @@ pub mod Scanning
 pub mod Written
 pub mod Forms
 pub mod Outcomes
+pub mod Ways

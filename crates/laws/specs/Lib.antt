@@ -1,2 +1,3 @@
 pub mod BindingsLaw
 pub mod Conflicts
+pub mod EarlyErrors
