@@ -9,3 +9,5 @@ pub mod Written
 pub mod Forms
 pub mod Outcomes
 pub mod Ways
+pub mod FourKinds
+pub mod EarlyTables
