@@ -150,7 +150,7 @@ module _ (rows : List ScopeRow) (d : Told) (nm : Names) (h : Sound rows nm) (g :
       (λ _. let w = move-fine (r .names) here t (d .name) (r .symbol) (r .symbol) (f .ranged) (f .there) in
       record { ranged = with-hoisted-fine (move-binding (r .names) here t (d .name) (r .symbol)) here (d .name) (r .symbol) (w .ranged) (w .there); there = w .there })
 
-stop-found : (rows : List ScopeRow) (nm : Names) (name p k s : ℕ) → Stops rows nm name p k s → found nm p name ≡ Some k
+pub stop-found : (rows : List ScopeRow) (nm : Names) (name p k s : ℕ) → Stops rows nm name p k s → found nm p name ≡ Some k
 stop-found rows nm name p k s (at-once v e val) = e
 stop-found rows nm name p k s (higher _ q v lacks e r) = stop-found rows nm name p k q r
 

@@ -11,3 +11,4 @@ pub mod Outcomes
 pub mod Ways
 pub mod FourKinds
 pub mod EarlyTables
+pub mod Early

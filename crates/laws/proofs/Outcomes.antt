@@ -79,12 +79,12 @@ module _ (m : Machine) (d : Declaration) where
       (again-alike (told m d) (m .names) k (unite (told m d) (noted (told m d) (m .names) k) k) new _
       (again-united (told m d) (m .names) k (found-there (m .scopes) (m .names) h g t (d .name .0) k e)) (some k e)))
 
-  on-scope-none : (t : ℕ) → found (m .names) t (d .name .0) ≡ None → declare-symbol-on-scope (told m d) (m .names) t ≡ declare-shadow-symbol (told m d) (m .names) t
+  pub on-scope-none : (t : ℕ) → found (m .names) t (d .name .0) ≡ None → declare-symbol-on-scope (told m d) (m .names) t ≡ declare-shadow-symbol (told m d) (m .names) t
   unfolding declare-symbol-on-scope
   on-scope-none t e =
       ap (λ o. maybe o (declare-shadow-symbol (told m d) (m .names) t) (λ s. record { names = unite (told m d) (noted (told m d) (m .names) s) s; symbol = s })) e
 
-  on-scope-some : (t k : ℕ) → found (m .names) t (d .name .0) ≡ Some k → declare-symbol-on-scope (told m d) (m .names) t ≡ record { names = unite (told m d) (noted (told m d) (m .names) k) k; symbol = k }
+  pub on-scope-some : (t k : ℕ) → found (m .names) t (d .name .0) ≡ Some k → declare-symbol-on-scope (told m d) (m .names) t ≡ record { names = unite (told m d) (noted (told m d) (m .names) k) k; symbol = k }
   unfolding declare-symbol-on-scope
   on-scope-some t k e =
       ap (λ o. maybe o (declare-shadow-symbol (told m d) (m .names) t) (λ s. record { names = unite (told m d) (noted (told m d) (m .names) s) s; symbol = s })) e
@@ -176,7 +176,7 @@ module _ (m : Machine) (d : Declaration) where
           (λ e. subst (λ (r : Declared). (scope : ℕ) × Scope-of-new m d (m .current) scope × New-symbol (told m d) (m .names) (moved-from r) scope) (sym (on-scope-none (m .current) e)) new-moved)
           (λ k e. subst (λ (r : Declared). Alike (unite (told m d) (noted (told m d) (m .names) k) k) (moved-from r) k) (sym (on-scope-some (m .current) k e)) (old-moved (unite (told m d) (noted (told m d) (m .names) k) k) k))
 
-    form-outcome : Good m → (r : Declared) → Form m d r → Outcome m d (r .names)
+    pub form-outcome : Good m → (r : Declared) → Form m d r → Outcome m d (r .names)
     unfolding conditional-scope
     form-outcome good r (form-stopped p k v s e) =
         let dd = told m d in
