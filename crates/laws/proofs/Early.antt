@@ -37,7 +37,7 @@ use Rattle.laws.proofs.Written.{noted, again-noted, again-united, hoist-all-al
 use Rattle.laws.proofs.Forms.{Form, form, form-stopped, form-reached, form-shadow, form-infer, form-moved, form-here, up, hoisted-out, Ranged, found-there, stop-found, after-ranged, fresh-ranged}
 use Rattle.laws.proofs.Outcomes.{on-scope-none, on-scope-some, form-outcome, after-granted, granted-no-refusal, after-refused, other-names, bind-granted}
 use Rattle.laws.proofs.FourKinds.{Lex, Plain, plain-value, plain-no-expression, lexical-includes, var-includes, lexical-excludes, var-excludes, lexical-manner}
-use Rattle.laws.proofs.EarlyTables.{Bound-right, Base, Hoists, make-keeps, make-base, noted-base, united-base, united-lexes, hoisting-base, hoisting-binds, hoisting-keeps, hoisting-there}
+use Rattle.laws.proofs.EarlyTables.{Bound-right, Base, Hoists, make-new, make-keeps, make-base, noted-base, united-base, united-lexes, hoisting-base, hoisting-binds, hoisting-keeps, hoisting-there}
 use Rattle.laws.proofs.Ways.{one-keep, one-last, one-split, two-keep, two-last, two-split, way-on, nearest-way, var-inside, way-inside, way-passed, passed-way, way-kept}
 
 -- no conflict and no error so far, and the tables tell the declarations
@@ -262,3 +262,77 @@ module _ (m : Machine) (d : Declaration) (good : Good m) (g : Ranged (m .names))
               (one-split (Var-through p n′) ds x o);
           inside = λ s n′ o. ⊎-elim (λ v. c .inside s n′ v) (λ v. way-inside rows (good .tree) s here (good .here) (v .2)) (one-split (Var-through s n′) ds x o);
         }
+
+    -- the var is stopped by a var that went through there: its target binds the name
+    stop-binds : (p k : ℕ) → Stops rows nm n p k here → meets (flags-of nm k) Lex ≡ false → Binds nm t n
+    stop-binds p k s lex =
+        let way = stop-passes rows (good .tree) nm n p k t here (good .here) refl s in
+        ⊎-elim
+        (λ b. absurd (⊎-elim (λ o. true≢false (sym (o .0) ∙ lex)) (λ o. true≢false (sym (o .1) ∙ way .no-var)) (c .base .bindings p n k b)))
+        (λ b. subst (λ y. Binds nm y n) (way .goal) (good .sound .hoists p n k b .above))
+        (found-cases rows nm p n k (stop-found rows nm n p k here s))
+
+    pub stopped-step : (p k : ℕ) → Stops rows nm n p k here → Early rows (hoist-all (stop (told m d) nm p t k .names) ps n k) more
+    unfolding add-symbol-redeclaration complain
+    stopped-step p k s =
+        let e = stop-found rows nm n p k here s in
+        let plain = found-plain rows nm ds (good .sound) g c p n k e in
+        let a = noted (told m d) nm k in
+        let moved-on = move-binding a p t n k in
+        bool-cases (meets (flags-of nm k) Lex) (Early rows (hoist-all moved-on ps n k) more)
+        (λ lex. inr (
+          (λ z. snoc-not-nil (nm .conflicts) _ (sym (hoist-all-alike ps moved-on n k k .conflicts ∙ move-alike a p t n k .conflicts ∙ again-noted (told m d) nm k .clashes (excludes-lex k plain ∙ lex)) ∙ z)),
+          (p, n, var-clash p (stop-way rows nm n p k here s) (found-lexical rows nm ds (good .sound) g c p n k e lex)),
+        ))
+        (λ lex. inl (subst (λ y. Clear rows (hoist-all y ps n k) more) (sym (stays p k (stop-binds p k s lex)))
+        (clear-after a k (noted-base rows more (told m d) nm k (excludes-lex k plain ∙ lex) (more-base rows nm ds (x ∷ []) (c .base)))
+        (λ y n′ b. b) (λ y n′ b. b) (stop-binds p k s lex) lex
+        (stop-free rows nm ds (good .sound) g c n p k here s lex))))
+      where
+        stays : (p k : ℕ) → Binds nm t n → move-binding (noted (told m d) nm k) p t n k ≡ noted (told m d) nm k
+        stays p k b = move-stays rows (good .tree) (noted (told m d) nm k) p t n k (is-some-from (binding nm t n) (b .0) (b .1))
+
+    reached-step : Reaches rows nm n t here → Early rows (hoisted-out rows here n (declare-symbol-on-scope (told m d) nm t) .names) more
+    unfolding declare-shadow-symbol unite add-symbol-redeclaration complain
+    reached-step r =
+        option-cases (found nm t n) (Result (declare-symbol-on-scope (told m d) nm t))
+        (λ e. subst Result (sym (on-scope-none m d t e)) (inl
+        (clear-after (declare-shadow-symbol (told m d) nm t .names) (length (nm .symbols))
+        (make-base rows more (told m d) nm t (good .sound) g (var-flags .0) (inr (var-flags .1, reach-var rows nm n t here r, through t t-way)) (more-base rows nm ds (x ∷ []) (c .base)))
+        (make-keeps rows more (told m d) nm t) (λ s n′ b. b) (length (nm .symbols), make-binds rows (told m d) nm t)
+        (ap (λ f. meets f Lex) (make-new rows more (told m d) nm t) ∙ var-flags .1)
+        (reach-free rows nm ds (good .sound) g c n t here r (free-lexical rows nm ds (good .sound) g c t n e)))))
+        (λ k e.
+        let plain = found-plain rows nm ds (good .sound) g c t n k e in
+        let lies = found-there rows nm (good .sound) g t n k e in
+        let a = unite (told m d) (noted (told m d) nm k) k in
+        subst Result (sym (on-scope-some m d t k e))
+        (bool-cases (meets (flags-of nm k) Lex) (Early rows (hoist-all a ps n k) more)
+        (λ lex. inr (
+          (λ z. snoc-not-nil (nm .conflicts) _ (sym (hoist-all-alike ps a n k k .conflicts ∙ again-united (told m d) nm k lies .clashes (excludes-lex k plain ∙ lex)) ∙ z)),
+          (t, n, var-clash t t-way (found-lexical rows nm ds (good .sound) g c t n k e lex)),
+        ))
+        (λ lex. let mild = excludes-lex k plain ∙ lex in
+        let b = more-base rows nm ds (x ∷ []) (c .base) in
+        inl (clear-after a k (united-base rows more (told m d) nm k lies mild (var-flags .0) (var-flags .1) b)
+        (λ s n′ q. q) (λ s n′ q. q) (bound-at-t k e) (united-lexes rows more (told m d) nm k lies mild (var-flags .0) (var-flags .1) b lex)
+        (reach-free rows nm ds (good .sound) g c n t here r (λ o. c .no-error t n (inr (o, found-var rows nm ds (good .sound) g c t n k e lex))))))))
+      where
+        Result : Declared → Type 0
+        Result y = Early rows (hoisted-out rows here n y .names) more
+
+        bound-at-t : (k : ℕ) → found nm t n ≡ Some k → Binds nm t n
+        bound-at-t k e =
+            ⊎-elim (λ b. (k, b)) (λ b. absurd (true≢false (sym (reach-var rows nm n t here r) ∙ good .sound .hoists t n k b .no-var))) (found-cases rows nm t n k e)
+
+  -- what becomes of one of the four
+  pub four-step : Of-four x → Form m d (bound m d) → Early rows (bound m d .names) more
+  four-step four (form-stopped p k v s e) = subst (λ (r : Declared). Early rows (r .names) more) (sym e) (stopped-step v p k s)
+  four-step four (form-reached v r e) = subst (λ (y : Declared). Early rows (y .names) more) (sym e) (reached-step v r)
+  four-step four (form-shadow k e) = let l = four .1 in absurd (omega arith)
+  four-step four (form-infer k e) = let l = four .1 in absurd (omega arith)
+  four-step four (form-moved v k i o e) = absurd (here-not-out (sym (lexical-manner (d .modifiers) (meets (m .setting) TypeScript) (is-strict rows here) (is-var rows here) (d .kind) (let l = four .0 in omega arith, four .1)) ∙ o))
+    where
+      here-not-out : Here ≡ MovedOut → ⊥
+      here-not-out q = let z : _≡_ {A = ℕ} 0 1 = cc in omega arith
+  four-step four (form-here v k i o e) = subst (λ (r : Declared). Early rows (r .names) more) (sym e) (lexical-step (let l = four .0 in omega arith, four .1))

@@ -53,7 +53,7 @@ module _ (rows : List ScopeRow) (ds : List Granted) where
     unfolding declare-shadow-symbol
     make-old k l = ap (λ (r : SymbolRow). r .flags .0) (List·getD-append (nm .symbols) _ no-symbol k l)
 
-    make-new : flags-of (declare-shadow-symbol d nm scope .names) (length (nm .symbols)) ≡ d .includes
+    pub make-new : flags-of (declare-shadow-symbol d nm scope .names) (length (nm .symbols)) ≡ d .includes
     unfolding declare-shadow-symbol
     make-new = ap (λ (r : SymbolRow). r .flags .0) (getD-append-seam (nm .symbols) _ [] no-symbol)
 
