@@ -53,11 +53,11 @@ pub record Clear (rows : List ScopeRow) (nm : Names) (ds : List Granted) : Type 
 abbrev pub Early : List ScopeRow → Names → List Granted → Type 0
 Early rows nm ds = Clear rows nm ds ⊎ ((nm .conflicts ≢ []) × ((s n : ℕ) × Early-error ds s n))
 
-snoc-not-nil : (xs : List Conflict) (y : Conflict) → (xs ++ y ∷ []) ≢ []
+pub snoc-not-nil : (xs : List Conflict) (y : Conflict) → (xs ++ y ∷ []) ≢ []
 snoc-not-nil [] y e = let z : _≡_ {A = ℕ} 0 1 = cc in omega arith
 snoc-not-nil (x ∷ xs) y e = let z : _≡_ {A = ℕ} 0 1 = cc in omega arith
 
-more-error : (ds ys : List Granted) (s n : ℕ) → Early-error ds s n → Early-error (ds ++ ys) s n
+pub more-error : (ds ys : List Granted) (s n : ℕ) → Early-error ds s n → Early-error (ds ++ ys) s n
 more-error ds ys s n e =
     ⊎-elim (λ t. inl (two-keep (Lexical s n) ds ys t)) (λ b. inr (one-keep (Lexical s n) ds ys (b .0), one-keep (Var-through s n) ds ys (b .1))) e
 

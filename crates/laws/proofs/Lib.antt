@@ -12,3 +12,4 @@ pub mod Ways
 pub mod FourKinds
 pub mod EarlyTables
 pub mod Early
+pub mod EarlyRuns

@@ -2,3 +2,4 @@
 
 pub mod bindings;
 pub mod conflicts;
+pub mod early_errors;
