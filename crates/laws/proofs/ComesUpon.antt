@@ -1,25 +1,24 @@
 -- The symbol that a declaration comes upon: there is at most one, and the tables say which.
-use mathlib.Core.Logic.{_≢_, ⊎-elim, _⊎_, inl, inr}
+use mathlib.Core.Logic.{⊎-elim, _⊎_, inl, inr}
 use mathlib.Core.Path.{_≡_, refl, sym, ap, _∙_, subst}
 use mathlib.Core.List.{List, [], _∷_}
-use mathlib.Core.Bool.{Bool, true, false, cond}
+use mathlib.Core.Bool.{false}
 use Prim.Native.Nat.{ℕ, zero, suc, _<_}
 use native.Mathlib.Nat.{not-suc-le-zero}
 use native.Mathlib.Omega.{arith}
-use lib.ListN.{length}
 use Rattle.std.proofs.shelf.Tests.{true≢false}
 use Rattle.std.specs.declared.option.Option.{Option}
 use Rattle.std.specs.declared.option.Option.the-variants.{Some, None}
-use Rattle.tables.specs.Flags.{meets, VarScope, TsConditional, FunctionExpression, ByValue}
+use Rattle.tables.specs.Flags.{meets, TsConditional, FunctionExpression}
 use Rattle.tables.specs.declared.row.ScopeRow.{ScopeRow}
 use Rattle.model.specs.declared.call.Declaration.{Declaration}
 use Rattle.model.specs.Basics.{maybe, first}
 use Rattle.model.specs.State.{Names, Machine, flags-of}
-use Rattle.model.specs.Scopes.{parent-of, flags-in, is-var, climb, chain, target, conditional-scope}
+use Rattle.model.specs.Scopes.{parent-of, flags-in, climb, chain}
 use Rattle.model.specs.Declaring.{binding, hoisted, found, not-expression}
-use Rattle.laws.specs.Conflicts.{Leads-to, Beside, No-value, Nearest, Nowhere, Stopped-by, Reaches, Var, CatchName, Infer, Made-in, Comes-upon, Told-apart, by-binding, by-hoisting, itself, above, at-top, nor-above, stopped-here, stopped-above, reached, passes, var-scope, conditional, no-conditional, current-scope, on-the-way, in-scope}
+use Rattle.laws.specs.Conflicts.{Leads-to, Beside, Nearest, Nowhere, Stopped-by, Reaches, Var, Infer, Made-in, Comes-upon, Told-apart, by-binding, by-hoisting, itself, above, at-top, nor-above, stopped-here, stopped-above, reached, passes, var-scope, conditional, no-conditional, current-scope, on-the-way, in-scope}
 use Rattle.laws.proofs.Basics.{bool-cases, option-cases, cond-is-true, cond-is-false, none≢some, some-inj}
-use Rattle.laws.proofs.Tree.{Tree, chain-step, has-parent, target-here, target-up}
+use Rattle.laws.proofs.Tree.{Tree, chain-step}
 
 -- what stands beside a name in a scope
 module _ (nm : Names) (s n : ℕ) where

@@ -1,44 +1,36 @@
 -- The law on early errors.
 use mathlib.Core.Logic.{_≢_, ⊎-elim, _⊎_, inl, inr}
 use mathlib.Core.Path.{_≡_, refl, sym, ap, _∙_, subst}
-use mathlib.Core.List.{List, [], _∷_, _++_, append-nil, append-assoc}
-use mathlib.Core.Bool.{Bool, true, false, cond, not}
-use Prim.Native.Nat.{ℕ, zero, suc, _+_, _≤_, _<_}
+use mathlib.Core.List.{List, [], _∷_, _++_}
+use mathlib.Core.Bool.{true, false}
+use Prim.Native.Nat.{ℕ, suc, _<_}
 use native.Mathlib.Omega.{arith}
-use lib.Dec.{eqb, lit<}
-use lib.ListN.{length, set}
-use Rattle.std.proofs.shelf.Tests.{true≢false, cases-eq}
-use Rattle.std.specs.shelf.Lists.{All}
-use Rattle.std.specs.declared.option.Option.{Option}
+use lib.ListN.{length}
+use Rattle.std.proofs.shelf.Tests.{true≢false}
 use Rattle.std.specs.declared.option.Option.the-variants.{Some, None}
-use Rattle.tables.specs.Flags.{meets, VarScope, ByValue}
+use Rattle.tables.specs.Flags.{meets}
 use Rattle.tables.specs.declared.row.ScopeRow.{ScopeRow}
 use Rattle.tables.specs.declared.row.Conflict.{Conflict}
-use Rattle.model.specs.declared.call.Call.{Call}
-use Rattle.model.specs.declared.call.Call.the-variants.{EnterScope, LeaveScope, Bind, DeclareReference, ResolveReferences, ResolveAllReferences}
 use Rattle.model.specs.declared.call.Declaration.{Declaration}
-use Rattle.model.specs.declared.manner.Manner.{Manner}
 use Rattle.model.specs.declared.manner.Manner.the-variants.{Here, MovedOut}
-use Rattle.model.specs.Basics.{maybe}
 use Rattle.model.specs.Kinds.{TypeScript, includes, excludes}
-use Rattle.model.specs.State.{Names, Machine, fresh, flags-of}
-use Rattle.model.specs.Scopes.{parent-of, flags-in, is-var, is-strict, target, passed}
-use Rattle.model.specs.Declaring.{Told, Declared, binding, hoisted, complain, add-symbol-redeclaration, unite, found, declare-shadow-symbol, declare-symbol-on-scope, move-binding, hoist-all}
-use Rattle.model.specs.Calls.{told, bound, granted, after, answer, refusal, run, child, handed, parent-here}
-use Rattle.laws.specs.Conflicts.{by-binding, by-hoisting, Beside, No-value, Reaches, reached, passes, Var, Moves-out, Again, Outcome, stopped, united, made, was-granted, is-bind}
-use Rattle.laws.specs.EarlyErrors.{Granted, granted-by, declarations, On-way, start, onward, Is-lexical, Lexical, Var-through, One-of, Two-of, Early-error, Of-four, Early-right, Early-errors}
-use Rattle.laws.proofs.Basics.{maybe-both, bool-cases, option-cases, cond-is-true, cond-is-false, none≢some, some-inj, is-some-from, eval-apart}
-use Rattle.laws.proofs.Tree.{Tree, Kept, Passes, kept-push, kept-set, target-var}
+use Rattle.model.specs.State.{Names, Machine, flags-of}
+use Rattle.model.specs.Scopes.{is-var, is-strict, passed}
+use Rattle.model.specs.Declaring.{Declared, binding, complain, add-symbol-redeclaration, unite, found, declare-shadow-symbol, declare-symbol-on-scope, move-binding, hoist-all}
+use Rattle.model.specs.Calls.{told, bound}
+use Rattle.laws.specs.Conflicts.{by-binding, by-hoisting, No-value, Reaches, reached, passes, Var}
+use Rattle.laws.specs.EarlyErrors.{Granted, On-way, start, onward, Is-lexical, Lexical, Var-through, One-of, Early-error, Of-four}
+use Rattle.laws.proofs.Basics.{bool-cases, option-cases, none≢some, some-inj, is-some-from}
 use Rattle.laws.proofs.Sound.{Sound, Binds, found-cases, make-binds, move-stays}
-use Rattle.laws.proofs.Runs.{Good, fresh-good, after-good}
+use Rattle.laws.proofs.Runs.{Good}
 use Rattle.laws.proofs.ComesUpon.{beside-found, found-beside}
 use Rattle.laws.proofs.Scanning.{Stops, at-once, higher, stop, stop-passes, nearest-var}
 use Rattle.laws.proofs.Written.{noted, again-noted, again-united, hoist-all-alike, move-alike}
-use Rattle.laws.proofs.Forms.{Form, form, form-stopped, form-reached, form-shadow, form-infer, form-moved, form-here, up, hoisted-out, Ranged, found-there, stop-found, after-ranged, fresh-ranged}
-use Rattle.laws.proofs.Outcomes.{on-scope-none, on-scope-some, form-outcome, after-granted, granted-no-refusal, after-refused, other-names, bind-granted}
+use Rattle.laws.proofs.Forms.{Form, form-stopped, form-reached, form-shadow, form-infer, form-moved, form-here, up, hoisted-out, Ranged, found-there, stop-found}
+use Rattle.laws.proofs.Outcomes.{on-scope-none, on-scope-some}
 use Rattle.laws.proofs.FourKinds.{Lex, Plain, plain-value, plain-no-expression, lexical-includes, var-includes, lexical-excludes, var-excludes, lexical-manner}
-use Rattle.laws.proofs.EarlyTables.{Bound-right, Base, Hoists, make-new, make-keeps, make-base, noted-base, united-base, united-lexes, hoisting-base, hoisting-binds, hoisting-keeps, hoisting-there}
-use Rattle.laws.proofs.Ways.{one-keep, one-last, one-split, two-keep, two-last, two-split, way-on, nearest-way, var-inside, way-inside, way-passed, passed-way, way-kept}
+use Rattle.laws.proofs.EarlyTables.{Base, Hoists, make-new, make-keeps, make-base, noted-base, united-base, united-lexes, hoisting-base, hoisting-binds, hoisting-keeps, hoisting-there}
+use Rattle.laws.proofs.Ways.{one-keep, one-last, one-split, two-keep, two-last, two-split, way-on, nearest-way, way-inside, way-passed, passed-way}
 
 -- no conflict and no error so far, and the tables tell the declarations
 pub record Clear (rows : List ScopeRow) (nm : Names) (ds : List Granted) : Type 0 where

@@ -1,35 +1,32 @@
 -- The law on early errors, over runs.
-use mathlib.Core.Logic.{_≢_, ⊎-elim, _⊎_, inl, inr}
+use mathlib.Core.Logic.{_≢_, ⊎-elim, inl, inr}
 use mathlib.Core.Path.{_≡_, refl, sym, ap, _∙_, subst}
 use mathlib.Core.List.{List, [], _∷_, _++_, append-nil, append-assoc}
-use mathlib.Core.Bool.{Bool, true, false, cond, not}
-use Prim.Native.Nat.{ℕ, zero, suc, _≤_, _<_}
+use mathlib.Core.Bool.{false, not}
+use Prim.Native.Nat.{ℕ}
 use native.Mathlib.Nat.{not-suc-le-zero}
 use native.Mathlib.Omega.{arith}
 use lib.Dec.{eqb, lit<}
-use lib.ListN.{length}
 use Rattle.std.specs.shelf.Lists.{All}
 use Rattle.std.specs.declared.option.Option.the-variants.{None}
 use Rattle.tables.specs.Flags.{meets, VarScope}
 use Rattle.tables.specs.declared.row.ScopeRow.{ScopeRow}
-use Rattle.tables.specs.declared.row.Conflict.{Conflict}
 use Rattle.model.specs.declared.call.Call.{Call}
 use Rattle.model.specs.declared.call.Call.the-variants.{EnterScope, LeaveScope, Bind, DeclareReference, ResolveReferences, ResolveAllReferences}
 use Rattle.model.specs.declared.call.Declaration.{Declaration}
 use Rattle.model.specs.State.{Names, Machine, fresh, flags-of}
-use Rattle.model.specs.Scopes.{flags-in, is-var}
+use Rattle.model.specs.Scopes.{flags-in}
 use Rattle.model.specs.Declaring.{Told}
 use Rattle.model.specs.Calls.{bound, granted, after, answer, refusal, run, child, handed, parent-here}
 use Rattle.laws.specs.Conflicts.{Again, Outcome, stopped, united, made, was-granted, is-bind}
-use Rattle.laws.specs.EarlyErrors.{Granted, granted-by, declarations, Var-through, Of-four, Early-right, Early-errors}
+use Rattle.laws.specs.EarlyErrors.{Granted, granted-by, declarations, Of-four, Early-errors}
 use Rattle.laws.proofs.Basics.{maybe-both, bool-cases, none≢some, cond-is-true, cond-is-false, eval-apart}
 use Rattle.laws.proofs.Tree.{Tree, Kept, kept-push, kept-set}
 use Rattle.laws.proofs.Runs.{Good, fresh-good, after-good}
 use Rattle.laws.proofs.Forms.{form, Ranged, after-ranged, fresh-ranged}
 use Rattle.laws.proofs.Outcomes.{form-outcome, after-granted, granted-no-refusal, after-refused, other-names}
-use Rattle.laws.proofs.EarlyTables.{Base}
 use Rattle.laws.proofs.Ways.{var-inside, way-kept}
-use Rattle.laws.proofs.Early.{Clear, Early, snoc-not-nil, more-error, four-step}
+use Rattle.laws.proofs.Early.{Early, snoc-not-nil, more-error, four-step}
 
 -- scopes that come to be
 

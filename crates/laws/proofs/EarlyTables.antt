@@ -1,35 +1,31 @@
 -- What the tables hold of the declarations so far, as long as there is no conflict.
 use mathlib.Core.Logic.{_≢_, ⊎-elim, _⊎_, inl, inr}
 use mathlib.Core.Path.{_≡_, refl, sym, ap, _∙_, subst}
-use mathlib.Core.List.{List, [], _∷_, _++_, append-nil}
-use mathlib.Core.Bool.{Bool, true, false, cond}
-use Prim.Native.Nat.{ℕ, zero, suc, _+_, _≤_, _<_}
+use mathlib.Core.List.{List, [], _∷_}
+use mathlib.Core.Bool.{Bool, true, false}
+use Prim.Native.Nat.{ℕ, _≤_, _<_}
 use native.Mathlib.Omega.{arith}
 use lib.Bits.{bitOr}
-use lib.Dec.{eqb}
-use lib.ListN.{length, getD, set, length-append, length-set, List·getD-append}
+use lib.ListN.{length, length-append, length-set, List·getD-append}
 use lib.Seq.{getD-append-seam, getD-set-same, getD-set-other}
-use Rattle.std.proofs.shelf.Tests.{true≢false, cases-lt, cases-eq}
-use Rattle.std.specs.declared.option.Option.{Option}
-use Rattle.std.specs.declared.option.Option.the-variants.{Some, None}
+use Rattle.std.proofs.shelf.Tests.{cases-lt, cases-eq}
+use Rattle.std.specs.declared.option.Option.the-variants.{Some}
 use Rattle.stores.specs.Pairs.{Pairs, put}
 use Rattle.stores.specs.Keys.{same-scope-and-name}
 use Rattle.stores.specs.declared.key.ScopeAndName.{ScopeAndName}
-use Rattle.tables.specs.Flags.{meets, FunctionExpression}
+use Rattle.tables.specs.Flags.{meets}
 use Rattle.tables.specs.declared.row.ScopeRow.{ScopeRow}
 use Rattle.tables.specs.declared.row.SymbolRow.{SymbolRow}
-use Rattle.model.specs.Basics.{maybe, place, the-name, the-scope, the-node, symbol-flags}
+use Rattle.model.specs.Basics.{place}
 use Rattle.model.specs.State.{Names, no-symbol, symbol-row, flags-of}
-use Rattle.model.specs.Scopes.{parent-of, is-var, target, passed}
-use Rattle.model.specs.Declaring.{Told, Declared, binding, hoisted, complain, add-symbol-redeclaration, unite, found, declare-shadow-symbol, with-hoisted, hoist-all, with-flags}
-use Rattle.laws.specs.Conflicts.{Leads-to, by-binding, by-hoisting, Beside}
-use Rattle.laws.specs.EarlyErrors.{Granted, On-way, Lexical, Var-through, One-of, Two-of, Early-error}
-use Rattle.laws.proofs.Basics.{bool-cases, option-cases, cond-is-true, cond-is-false, none≢some, some-inj, same-true, same-refl}
-use Rattle.laws.proofs.Sound.{Sound, Binds, found-cases}
-use Rattle.laws.proofs.ComesUpon.{none-beside}
+use Rattle.model.specs.Scopes.{is-var}
+use Rattle.model.specs.Declaring.{Told, binding, hoisted, complain, add-symbol-redeclaration, unite, declare-shadow-symbol, with-hoisted, hoist-all, with-flags}
+use Rattle.laws.specs.EarlyErrors.{Granted, Lexical, Var-through, One-of}
+use Rattle.laws.proofs.Basics.{bool-cases, cond-is-true, cond-is-false, some-inj, same-true, same-refl}
+use Rattle.laws.proofs.Sound.{Sound, Binds}
 use Rattle.laws.proofs.Written.{noted, again-noted}
 use Rattle.laws.proofs.Forms.{Ranged}
-use Rattle.laws.proofs.FourKinds.{Lex, Plain, plain-no-expression, plain-united, lex-united}
+use Rattle.laws.proofs.FourKinds.{Lex, Plain, plain-united, lex-united}
 
 -- a binding, to a symbol that is lexical or not
 abbrev pub Bound-right : List ScopeRow → List Granted → ℕ → ℕ → Bool → Type 0

@@ -1,15 +1,14 @@
 -- What a declaration comes to, by its kind.
-use mathlib.Core.Logic.{_≢_, ⊎-elim, _⊎_, inl, inr}
+use mathlib.Core.Logic.{_≢_, ⊎-elim}
 use mathlib.Core.Path.{_≡_, refl, sym, ap, _∙_, subst}
-use mathlib.Core.List.{List, [], _∷_, _++_}
-use mathlib.Core.Bool.{Bool, true, false, cond, not, _&&_}
-use Prim.Native.Nat.{ℕ, zero, suc, _+_, _<_}
+use mathlib.Core.List.{List, [], _∷_}
+use mathlib.Core.Bool.{Bool, false, cond, not, _&&_}
+use Prim.Native.Nat.{ℕ, suc, _+_, _<_}
 use native.Mathlib.Omega.{arith}
 use lib.Dec.{eqb}
 use lib.ListN.{length, length-append, length-set}
 use Rattle.std.proofs.shelf.Tests.{cases-eq, eq-eqb, ne-eqb, cond-both}
 use Rattle.std.specs.Options.{isSome}
-use Rattle.std.specs.declared.option.Option.{Option}
 use Rattle.std.specs.declared.option.Option.the-variants.{Some, None}
 use Rattle.stores.specs.Keys.{same-scope-and-name}
 use Rattle.tables.specs.Flags.{meets, ByValue, FunctionScopedVariable, FunctionSymbol, Import}
@@ -19,18 +18,18 @@ use Rattle.model.specs.declared.call.Call.the-variants.{EnterScope, LeaveScope,
 use Rattle.model.specs.declared.call.Declaration.{Declaration}
 use Rattle.model.specs.declared.manner.Manner.{Manner}
 use Rattle.model.specs.declared.manner.Manner.the-variants.{Here, Hoisted, MovedOut, Shadow, Conditional}
-use Rattle.model.specs.Basics.{maybe, place}
+use Rattle.model.specs.Basics.{place}
 use Rattle.model.specs.Kinds.{TypeScript, Async, manner, excludes}
 use Rattle.model.specs.State.{Names, Machine, fresh}
 use Rattle.model.specs.Scopes.{is-var, is-strict, target, passed, conditional-scope}
 use Rattle.model.specs.Declaring.{Told, Declared, binding, hoisted, complain, add-symbol-redeclaration, unite, found, declare-shadow-symbol, declare-symbol-on-scope, move-binding, relocate, with-hoisted, hoist-all, declare-var, declare-moved-out, declare}
 use Rattle.model.specs.Calls.{told, bound, granted, after, refusal, run}
 use Rattle.laws.specs.Conflicts.{Reaches, Var, CatchName, Infer, Moves-out}
-use Rattle.laws.proofs.Basics.{maybe-both, option-cases, bool-cases, cond-is-true, cond-is-false, none≢some, some-inj, same-true}
+use Rattle.laws.proofs.Basics.{maybe-both, bool-cases, cond-is-true, cond-is-false, none≢some, some-inj}
 use Rattle.laws.proofs.Sound.{Sound, found-cases}
-use Rattle.laws.proofs.Runs.{Good, after-good, fresh-good}
+use Rattle.laws.proofs.Runs.{Good, after-good}
 use Rattle.laws.proofs.FlagSets.{misses-part}
-use Rattle.laws.proofs.Scanning.{Stops, at-once, higher, stop, stop-passes, scan-comes-to}
+use Rattle.laws.proofs.Scanning.{Stops, at-once, higher, stop, scan-comes-to}
 
 -- the scopes on the way see the symbol as a hoisted variable
 abbrev pub hoisted-out : List ScopeRow → ℕ → ℕ → Declared → Declared

@@ -1,12 +1,11 @@
 -- The flags of var, let, const and class.
-use mathlib.Core.Logic.{⊎-elim, _⊎_, inl, inr}
-use mathlib.Core.Path.{_≡_, refl, sym, ap, ap₂, _∙_, subst}
+use mathlib.Core.Path.{_≡_, refl, ap, _∙_}
 use mathlib.Core.Bool.{Bool, true, false, cond, _||_}
-use Prim.Native.Nat.{ℕ, zero, suc, _+_, _≤_, _<_}
+use Prim.Native.Nat.{ℕ, zero, suc, _+_}
 use native.Mathlib.Omega.{arith}
 use lib.Bits.{bitOr}
 use Rattle.std.proofs.shelf.Tests.{cond-both, or-left, or-from}
-use Rattle.tables.specs.Flags.{meets, less, FunctionScopedVariable, BlockScopedVariable, Class, FunctionSymbol, FunctionExpression, Interface, RegularEnum, ConstEnum, EnumMember, Import, Ambient, AsyncOrGenerator, Value, ValueOrType, ByValue}
+use Rattle.tables.specs.Flags.{meets, less, FunctionScopedVariable, BlockScopedVariable, Class, FunctionSymbol, FunctionExpression, RegularEnum, ConstEnum, EnumMember, Import, Ambient, AsyncOrGenerator, ByValue}
 use Rattle.model.specs.declared.manner.Manner.the-variants.{Here}
 use Rattle.model.specs.Kinds.{Declare, Async, includes, excludes, manner}
 use Rattle.laws.specs.EarlyErrors.{Is-lexical}

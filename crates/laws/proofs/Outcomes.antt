@@ -1,43 +1,37 @@
 -- The law on conflicts and redeclarations.
-use mathlib.Core.Logic.{_≢_, ⊎-elim, _⊎_, inl, inr}
+use mathlib.Core.Logic.{_≢_, ⊎-elim}
 use mathlib.Core.Path.{_≡_, refl, sym, ap, _∙_, subst}
 use mathlib.Core.List.{List, [], _∷_, _++_}
-use mathlib.Core.Bool.{Bool, true, false, cond}
-use Prim.Native.Nat.{ℕ, zero, suc, _<_}
+use mathlib.Core.Bool.{true, false, cond}
+use Prim.Native.Nat.{ℕ, suc}
 use native.Mathlib.Omega.{arith}
-use lib.Bits.{bitOr}
-use lib.Dec.{eqb}
-use lib.ListN.{length, getD, set}
+use lib.ListN.{length, set}
 use lib.Seq.{getD-append-seam}
-use Rattle.std.proofs.shelf.Tests.{true≢false, cond-both, eq-eqb, ne-eqb}
+use Rattle.std.proofs.shelf.Tests.{true≢false, cond-both}
 use Rattle.std.specs.Options.{isSome}
-use Rattle.std.specs.declared.option.Option.{Option}
 use Rattle.std.specs.declared.option.Option.the-variants.{Some, None}
 use Rattle.stores.specs.Keys.{same-scope-and-name}
 use Rattle.tables.specs.Flags.{meets, TsConditional, VarScope}
-use Rattle.tables.specs.declared.refusal.Refusal.{Refusal}
-use Rattle.tables.specs.declared.row.ScopeRow.{ScopeRow}
 use Rattle.tables.specs.declared.row.SymbolRow.{SymbolRow}
 use Rattle.model.specs.declared.call.Call.{Call}
 use Rattle.model.specs.declared.call.Call.the-variants.{EnterScope, LeaveScope, Bind, DeclareReference, ResolveReferences, ResolveAllReferences}
 use Rattle.model.specs.declared.call.Declaration.{Declaration}
-use Rattle.model.specs.declared.call.Answer.{Answer}
 use Rattle.model.specs.declared.call.Answer.the-variants.{Refused}
 use Rattle.model.specs.declared.manner.Manner.{Manner}
-use Rattle.model.specs.declared.manner.Manner.the-variants.{Here, Hoisted, MovedOut, Shadow, Conditional}
-use Rattle.model.specs.Basics.{maybe, place, the-name, the-scope, the-node, symbol-flags}
+use Rattle.model.specs.declared.manner.Manner.the-variants.{Hoisted, MovedOut, Shadow, Conditional}
+use Rattle.model.specs.Basics.{maybe, place}
 use Rattle.model.specs.Kinds.{TypeScript, manner}
-use Rattle.model.specs.State.{Names, Machine, fresh, no-symbol, symbol-row}
-use Rattle.model.specs.Scopes.{is-var, is-strict, target, passed, conditional-scope}
-use Rattle.model.specs.Declaring.{Told, Declared, binding, complain, add-symbol-redeclaration, unite, found, declare-shadow-symbol, declare-symbol-on-scope, move-binding, relocate, with-hoisted, with-scope, hoist-all, declare-moved-out}
+use Rattle.model.specs.State.{Names, Machine, fresh, no-symbol}
+use Rattle.model.specs.Scopes.{is-var, is-strict, passed, conditional-scope}
+use Rattle.model.specs.Declaring.{Declared, binding, unite, found, declare-shadow-symbol, declare-symbol-on-scope, move-binding, relocate, with-hoisted, with-scope, hoist-all, declare-moved-out}
 use Rattle.model.specs.Calls.{told, bound, granted, granted-answer, after, answer, refusal, run}
-use Rattle.laws.specs.Conflicts.{Beside, Nearest, Reaches, Var, CatchName, Infer, Made-in, var-scope, conditional, no-conditional, current-scope, Comes-upon, on-the-way, in-scope, Again, New-symbol, Moves-out, Scope-of-new, stays, name-taken, moves, Outcome, stopped, united, made, was-granted, is-bind, Writes, Conflicts-exactly}
-use Rattle.laws.proofs.Basics.{maybe-both, option-cases, bool-cases, cond-is-true, cond-is-false, none≢some, is-some-from, same-true}
+use Rattle.laws.specs.Conflicts.{Beside, Nearest, Reaches, Var, CatchName, Infer, Made-in, var-scope, conditional, no-conditional, current-scope, Comes-upon, on-the-way, in-scope, New-symbol, Moves-out, Scope-of-new, stays, name-taken, moves, Outcome, stopped, united, made, was-granted, is-bind, Conflicts-exactly}
+use Rattle.laws.proofs.Basics.{maybe-both, option-cases, bool-cases, cond-is-true, cond-is-false, is-some-from, same-true}
 use Rattle.laws.proofs.Tree.{target-var}
 use Rattle.laws.proofs.Sound.{Sound}
 use Rattle.laws.proofs.Runs.{Good, fresh-good, run-good, moved-out-of}
 use Rattle.laws.proofs.ComesUpon.{found-beside, none-beside, first-of-chain, told-apart}
-use Rattle.laws.proofs.Scanning.{Stops, stop, stops-by, nearest-var}
+use Rattle.laws.proofs.Scanning.{stops-by, nearest-var}
 use Rattle.laws.proofs.Written.{Alike, alike-self, alike-then, hoist-alike, hoist-all-alike, move-alike, noted, again-alike, again-noted, again-united, new-made, new-hoisted}
 use Rattle.laws.proofs.Forms.{Form, form, form-stopped, form-reached, form-shadow, form-infer, form-moved, form-here, up, hoisted-out, Ranged, found-there, run-ranged, fresh-ranged}
 

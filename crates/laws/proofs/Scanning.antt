@@ -1,14 +1,13 @@
 -- How a var goes to its nearest var scope, and what its scan comes to.
-use mathlib.Core.Logic.{_≢_, ⊎-elim, _⊎_, inl, inr}
-use mathlib.Core.Path.{_≡_, refl, sym, ap, _∙_, subst}
+use mathlib.Core.Logic.{⊎-elim, _⊎_, inl, inr}
+use mathlib.Core.Path.{_≡_, sym, ap, _∙_, subst}
 use mathlib.Core.List.{List, [], _∷_, _++_, append-nil}
-use mathlib.Core.Bool.{Bool, true, false, cond}
+use mathlib.Core.Bool.{true, false, cond}
 use Prim.Native.Nat.{ℕ, zero, suc, _<_}
 use native.Mathlib.Nat.{not-suc-le-zero}
 use native.Mathlib.Omega.{arith}
 use lib.ListN.{length}
-use Rattle.std.specs.declared.option.Option.{Option}
-use Rattle.std.specs.declared.option.Option.the-variants.{Some, None}
+use Rattle.std.specs.declared.option.Option.the-variants.{Some}
 use Rattle.tables.specs.Flags.{meets, VarScope, ByValue}
 use Rattle.tables.specs.declared.row.ScopeRow.{ScopeRow}
 use Rattle.tables.specs.declared.row.Conflict.{Conflict}
@@ -16,8 +15,8 @@ use Rattle.model.specs.Basics.{maybe}
 use Rattle.model.specs.State.{Names, symbol-row, flags-of}
 use Rattle.model.specs.Scopes.{parent-of, is-var, target, passed}
 use Rattle.model.specs.Declaring.{Told, Declared, conflict-of, complain, add-symbol-redeclaration, found, declare-symbol-on-scope, move-binding, scan}
-use Rattle.laws.specs.Conflicts.{Beside, No-value, Nearest, itself, above, Stopped-by, stopped-here, stopped-above, Reaches, reached, passes}
-use Rattle.laws.proofs.Basics.{bool-cases, option-cases, cond-is-true, cond-is-false, some-inj}
+use Rattle.laws.specs.Conflicts.{No-value, Nearest, itself, above, Stopped-by, stopped-here, stopped-above, Reaches, reached, passes}
+use Rattle.laws.proofs.Basics.{bool-cases, option-cases, cond-is-true, cond-is-false}
 use Rattle.laws.proofs.Tree.{Tree, Passes, has-parent, target-here, target-up, passed-here, passed-up}
 use Rattle.laws.proofs.ComesUpon.{found-beside, none-beside, one-beside}
 

@@ -1,22 +1,21 @@
 -- Lists with one more at the end, and the ways of vars.
-use mathlib.Core.Logic.{_≢_, ⊎-elim, _⊎_, inl, inr}
+use mathlib.Core.Logic.{⊎-elim, _⊎_, inl, inr}
 use mathlib.Core.Path.{_≡_, refl, sym, ap, _∙_, subst}
 use mathlib.Core.List.{List, [], _∷_, _++_}
-use mathlib.Core.Bool.{Bool, true, false, cond}
+use mathlib.Core.Bool.{true}
 use Prim.Native.Nat.{ℕ, zero, suc, _≤_, _<_}
 use native.Mathlib.Nat.{not-suc-le-zero}
 use native.Mathlib.Omega.{arith}
 use lib.ListN.{length, List·getD-eq-default}
 use Rattle.std.proofs.shelf.Tests.{true≢false, cases-lt}
-use Rattle.std.specs.declared.option.Option.{Option}
-use Rattle.std.specs.declared.option.Option.the-variants.{Some, None}
+use Rattle.std.specs.declared.option.Option.the-variants.{Some}
 use Rattle.tables.specs.Flags.{meets, VarScope}
 use Rattle.tables.specs.declared.row.ScopeRow.{ScopeRow}
-use Rattle.model.specs.State.{Names, no-scope}
+use Rattle.model.specs.State.{no-scope}
 use Rattle.model.specs.Scopes.{parent-of, is-var, target, passed}
 use Rattle.laws.specs.Conflicts.{Nearest, itself, above}
 use Rattle.laws.specs.EarlyErrors.{On-way, start, onward, One-of, Two-of}
-use Rattle.laws.proofs.Basics.{bool-cases, none≢some, some-inj}
+use Rattle.laws.proofs.Basics.{bool-cases}
 use Rattle.laws.proofs.Tree.{Tree, Kept, has-parent, target-here, target-up, passed-here, passed-up}
 
 module _ {X : Type 0} (P : X → Type 0) where

@@ -1,28 +1,24 @@
 -- What a declaration writes into the rows of symbols, the redeclarations and the conflicts.
-use mathlib.Core.Logic.{_≢_, ⊎-elim, _⊎_, inl, inr}
-use mathlib.Core.Path.{_≡_, refl, sym, ap, _∙_, subst}
-use mathlib.Core.List.{List, [], _∷_, _++_, append-nil, append-assoc}
-use mathlib.Core.Bool.{Bool, true, false, cond, _||_}
-use Prim.Native.Nat.{ℕ, zero, suc, _+_, _<_, _≤_}
+use mathlib.Core.Logic.{_≢_, ⊎-elim, inl, inr}
+use mathlib.Core.Path.{_≡_, refl, ap, _∙_}
+use mathlib.Core.List.{List, [], _∷_, _++_, append-nil}
+use mathlib.Core.Bool.{Bool, true, cond}
+use Prim.Native.Nat.{ℕ, _<_}
 use native.Mathlib.Omega.{arith}
 use lib.Bits.{bitOr}
 use lib.Dec.{eqb}
-use lib.ListN.{length, getD, set, length-append, length-set}
+use lib.ListN.{length, length-set}
 use lib.Seq.{getD-set-same, getD-set-other}
 use Rattle.std.proofs.shelf.Tests.{cond-both, eq-eqb, eqb-true, or-cases, or-left, or-right}
 use Rattle.std.specs.Options.{isSome}
-use Rattle.std.specs.declared.option.Option.{Option}
-use Rattle.std.specs.declared.option.Option.the-variants.{Some, None}
 use Rattle.tables.specs.Flags.{meets}
-use Rattle.tables.specs.declared.row.ScopeRow.{ScopeRow}
 use Rattle.tables.specs.declared.row.SymbolRow.{SymbolRow}
 use Rattle.tables.specs.declared.row.Redeclaration.{Redeclaration}
 use Rattle.tables.specs.declared.row.Conflict.{Conflict}
-use Rattle.model.specs.Basics.{maybe, the-name, the-scope, the-node, symbol-flags}
 use Rattle.model.specs.State.{Names, no-symbol, symbol-row, flags-of}
-use Rattle.model.specs.Declaring.{Told, Declared, binding, hoisted, has-redeclaration, first-declaration, new-declaration, conflict-of, complain, add-symbol-redeclaration, unite, found, declare-shadow-symbol, move-binding, relocate, hoist-all, with-hoisted, with-scope, with-flags}
-use Rattle.laws.specs.Conflicts.{Redeclared, Again, New-symbol, conflict, own-entry, new-entry}
-use Rattle.laws.proofs.Basics.{set-keeps, bool-cases, cond-is-true, cond-is-false, none≢some}
+use Rattle.model.specs.Declaring.{Told, binding, has-redeclaration, first-declaration, new-declaration, conflict-of, complain, add-symbol-redeclaration, unite, declare-shadow-symbol, move-binding, relocate, hoist-all, with-hoisted, with-scope, with-flags}
+use Rattle.laws.specs.Conflicts.{Redeclared, Again, New-symbol, own-entry, new-entry}
+use Rattle.laws.proofs.Basics.{set-keeps, bool-cases, cond-is-true, cond-is-false}
 
 has-it : (k : ℕ) (es : List Redeclaration) → Redeclared k es → has-redeclaration k es ≡ true
 has-it k [] h = absurd h

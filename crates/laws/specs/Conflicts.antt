@@ -1,6 +1,6 @@
 -- Conflicts and redeclarations: which symbol a declaration comes upon, and what it then writes.
-use Prim.Native.Nat.{ℕ, _<_}
-use mathlib.Core.Bool.{Bool, true, false, cond}
+use Prim.Native.Nat.{ℕ}
+use mathlib.Core.Bool.{Bool, true, false}
 use mathlib.Core.List.{List, [], _∷_, _++_}
 use mathlib.Core.Logic.{_≢_, _⊎_}
 use mathlib.Core.Path.{_≡_}
@@ -92,7 +92,7 @@ abbrev pub Redeclared : ℕ → List Redeclaration → Type 0
 Redeclared k [] = ⊥
 Redeclared k (e ∷ es) = (e .symbol .0 ≡ k) ⊎ Redeclared k es
 
--- a symbol's name and span, and those of what is declared beside it
+-- the name, the symbol's span, and the span of what is declared beside it
 abbrev pub conflict : Told → SymbolRow → Conflict
 conflict d r = record { name = the-name (d .name); «first_start» = r .start; «first_end» = r .end; «second_start» = d .start; «second_end» = d .end }
 

@@ -1,7 +1,7 @@
 -- Early errors: in a run that declares with var, let, const and class alone, the conflict list is empty exactly if no scope has a name
 -- lexically declared twice, or lexically declared and also var-declared in it or through it.
 use Prim.Native.Nat.{ℕ, _≤_}
-use mathlib.Core.Bool.{true, false, cond}
+use mathlib.Core.Bool.{false, cond}
 use mathlib.Core.List.{List, [], _∷_, _++_}
 use mathlib.Core.Logic.{_≢_, _⊎_}
 use mathlib.Core.Path.{_≡_}
