@@ -20,3 +20,14 @@ pub mod FirstFit
 pub mod PlacedByACall
 pub mod Valued
 pub mod GetIdentifierReference
+pub mod FlagSets
+pub mod ComesUpon
+pub mod Scanning
+pub mod Written
+pub mod Forms
+pub mod Outcomes
+pub mod Ways
+pub mod FourKinds
+pub mod EarlyTables
+pub mod Early
+pub mod EarlyRuns

@@ -9,3 +9,5 @@ pub mod NeverFull
 pub mod LongerRuns
 pub mod FirstFit
 pub mod GetIdentifierReference
+pub mod Conflicts
+pub mod EarlyErrors

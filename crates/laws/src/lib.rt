@@ -9,3 +9,5 @@ pub mod scripts;
 pub mod words;
 pub mod first_fit;
 pub mod get_identifier_reference;
+pub mod conflicts;
+pub mod early_errors;
