@@ -7,7 +7,6 @@ use lib.Dec.{eqb, ltb, leb}
 use lib.ListN.{length, set}
 use Rattle.std.specs.declared.option.Option.{Option}
 use Rattle.std.specs.declared.option.Option.the-variants.{Some, None}
-use Rattle.stores.specs.Pairs.{least-capacity}
 use Rattle.tables.specs.Flags.{meets, less, all-scope-flags, all-reference-flags, DirectEval, StrictMode}
 use Rattle.tables.specs.declared.row.ScopeRow.{ScopeRow}
 use Rattle.tables.specs.declared.refusal.Refusal.{Refusal}
@@ -175,12 +174,3 @@ builder-answer m c = maybe (builder-refusal m c) (granted-answer m c) Refused
 unfoldable pub machine-opened : Unit {0}
 unfolding chain target passed conditional-scope is-below add-symbol-redeclaration unite complain found declare-shadow-symbol declare-symbol-on-scope move-binding scan hoist-all declare-var declare-moved-out declare lookup-chain search settle settle-all fate-at-end has-ended fate-here resolve-end resolve-here refusal granted granted-answer after answer
 machine-opened = tt
-
--- the stores have room for all the keys that a call may add
-abbrev pub stores-have-room : Machine → Call → Bool
-stores-have-room m (EnterScope s) = true
-stores-have-room m LeaveScope = true
-stores-have-room m (Bind d) = ltb (m .names .bindings .size) least-capacity
-stores-have-room m (DeclareReference r) = true
-stores-have-room m (ResolveReferences start) = leb (m .uses .roots .size + (length (m .uses .pending) - start)) least-capacity
-stores-have-room m ResolveAllReferences = leb (m .uses .roots .size + length (m .uses .pending)) least-capacity
