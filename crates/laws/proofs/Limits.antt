@@ -8,21 +8,25 @@ use lib.Dec.{eqb, ltb, leb}
 use lib.ListN.{length, length-append, length-set}
 use Rattle.std.proofs.shelf.Tests.{cond-both, or-parts, ltb-false, leb-false, lt-ltb, le-leb}
 use Rattle.std.specs.shelf.Lists.{All}
+use Rattle.std.specs.declared.option.Option.{Option}
 use Rattle.std.specs.declared.option.Option.the-variants.{Some, None}
 use Rattle.tables.specs.Flags.{less, all-reference-flags}
-use Rattle.tables.specs.declared.refusal.Refusal.the-variants.{UnlistedBits, UnknownKind, ModifierNotOfKind, SpanReversed, NoSuchScope, DeclarationsFull, ReferencesFull}
+use Rattle.tables.specs.declared.refusal.Refusal.{Refusal}
+use Rattle.tables.specs.declared.refusal.Refusal.the-variants.{UnlistedBits, UnknownKind, ModifierNotOfKind, SpanReversed, NoSuchScope, DeclarationsFull, ReferencesFull, StoreFull}
 use Rattle.tables.specs.declared.row.UnresolvedReference.{UnresolvedReference}
 use Rattle.model.specs.declared.call.Call.{Call}
 use Rattle.model.specs.declared.call.Call.the-variants.{EnterScope, LeaveScope, Bind, DeclareReference, ResolveReferences, ResolveAllReferences}
+use Rattle.model.specs.declared.call.Answer.the-variants.{Refused}
 use Rattle.model.specs.declared.call.Declaration.{Declaration}
 use Rattle.model.specs.declared.call.NewReference.{NewReference}
 use Rattle.model.specs.declared.manner.Manner.{Manner}
 use Rattle.model.specs.declared.manner.Manner.the-variants.{Here, Hoisted, MovedOut, Shadow, Conditional}
 use Rattle.model.specs.Kinds.{kind-row, last-kind}
+use Rattle.model.specs.Basics.{maybe}
 use Rattle.model.specs.State.{Machine, Names, Uses, fresh}
 use Rattle.model.specs.Scopes.{passed}
 use Rattle.model.specs.Resolving.{Fate, resolve-to, list-at-root, stay, settle, settle-all, resolve-end, resolve-here}
-use Rattle.model.specs.Calls.{Test, _if_, first-of, most-references, refusal, granted, after, run, told, reach, declarations-full, stores-have-room}
+use Rattle.model.specs.Calls.{Test, _if_, first-of, most-references, refusal, granted, after, run, told, reach, declarations-full, stores-have-room, answer, granted-answer, builder-refusal, builder-after, builder-answer}
 use Rattle.laws.specs.NeverFull.{Never-full}
 use Rattle.laws.proofs.Basics.{bool-cases, maybe-both, none≢some, cond-is-true}
 use Rattle.laws.proofs.Runs.{run-good, fresh-good}
@@ -119,6 +123,23 @@ room-for m (DeclareReference x) b r e = refl
 room-for m (ResolveReferences start) b r e = le-leb (m .uses .roots .size + (length (m .uses .pending) - start)) 512 (omega arith)
 room-for m ResolveAllReferences b r e = le-leb (m .uses .roots .size + length (m .uses .pending)) 512 r
 
+-- where a call that is not refused has room, a builder refuses what the machine refuses
+builder-refuses : (m : Machine) (c : Call) → (refusal m c ≡ None → stores-have-room m c ≡ true) → builder-refusal m c ≡ refusal m c
+unfolding builder-refusal
+builder-refuses m c room = go (refusal m c) room
+  where
+    go : (r : Option Refusal) → (r ≡ None → stores-have-room m c ≡ true) → maybe r (cond (stores-have-room m c) None (Some StoreFull)) Some ≡ r
+    go None h = cond-is-true (stores-have-room m c) None (Some StoreFull) (h refl)
+    go (Some n) h = refl
+
+builder-goes-on : (m : Machine) (c : Call) → builder-refusal m c ≡ refusal m c → builder-after m c ≡ after m c
+unfolding builder-after after
+builder-goes-on m c e = ap (λ r. maybe r (granted m c) (λ n. m)) e
+
+builder-answers : (m : Machine) (c : Call) → builder-refusal m c ≡ refusal m c → builder-answer m c ≡ answer m c
+unfolding builder-answer answer
+builder-answers m c e = ap (λ r. maybe r (granted-answer m c) Refused) e
+
 pub never-full-law : Never-full
 never-full-law setting cs =
     let m = run (fresh setting) cs in
@@ -136,4 +157,6 @@ never-full-law setting cs =
       one-for-each-reference = r;
       roots = r′;
       for-call = λ c. room-for m c b r′;
+      same-after = λ c. builder-goes-on m c (builder-refuses m c (room-for m c b r′));
+      same-answer = λ c. builder-answers m c (builder-refuses m c (room-for m c b r′));
     }

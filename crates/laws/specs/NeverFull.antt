@@ -8,7 +8,7 @@ use Rattle.std.specs.declared.option.Option.the-variants.{None}
 use Rattle.stores.specs.Pairs.{least-capacity}
 use Rattle.model.specs.declared.call.Call.{Call}
 use Rattle.model.specs.State.{Machine, fresh}
-use Rattle.model.specs.Calls.{run, refusal, stores-have-room}
+use Rattle.model.specs.Calls.{run, refusal, after, answer, stores-have-room, builder-after, builder-answer}
 
 pub record Has-room (m : Machine) : Type 0 where
   pub one-for-each-symbol : m .names .bindings .size ≤ length (m .names .symbols)
@@ -19,6 +19,9 @@ pub record Has-room (m : Machine) : Type 0 where
   pub roots : m .uses .roots .size + length (m .uses .pending) ≤ least-capacity
   -- a call that is not refused has room
   pub for-call : (c : Call) → refusal m c ≡ None → stores-have-room m c ≡ true
+  -- so a builder goes on and answers as the machine does
+  pub same-after : (c : Call) → builder-after m c ≡ after m c
+  pub same-answer : (c : Call) → builder-answer m c ≡ answer m c
 
 abbrev pub Never-full : Type 0
 Never-full = (setting : ℕ) (cs : List Call) → Has-room (run (fresh setting) cs)
