@@ -12,7 +12,7 @@ pub mod Limits
 pub mod LongerRuns
 mod FlagBits
 mod FlagWords
-mod RefusedExactly
+pub mod RefusedExactly
 pub mod Searching
 pub mod Single
 pub mod Settling

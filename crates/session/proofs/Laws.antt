@@ -9,9 +9,15 @@ use Rattle.model.specs.State.{Machine, fresh}
 use Rattle.model.specs.Declaring.{binding, hoisted}
 use Rattle.model.specs.Calls.{run, after, answer, answers, builder-after, builder-answer}
 use Rattle.laws.specs.OnceLaw.{resolved-list, root-list}
-use Rattle.laws.proofs.Runs.{bindings-law}
-use Rattle.laws.proofs.OnceRuns.{once-law, counts-law}
+use Rattle.laws.proofs.EarlyRuns.{early-errors-law}
+use Rattle.laws.proofs.FirstFit.{first-fit}
+use Rattle.laws.proofs.GetIdentifierReference.{get-identifier-reference-law}
 use Rattle.laws.proofs.Limits.{never-full-law}
+use Rattle.laws.proofs.OnceRuns.{once-law, counts-law}
+use Rattle.laws.proofs.Outcomes.{conflicts-law}
+use Rattle.laws.proofs.PlacedByACall.{placed-by-a-call}
+use Rattle.laws.proofs.RefusedExactly.{refused-exactly}
+use Rattle.laws.proofs.Runs.{bindings-law}
 use Rattle.session.specs.Laws.{Equal, Lawful, Applied, Keeps-laws, Ran}
 use Rattle.session.proofs.Room.{same-after, next-state, next-answer, next-answers}
 
@@ -41,9 +47,16 @@ machine-lawful setting cs =
       answered = refl;
       state = refl;
       equal = equal-from (run (fresh setting) cs) (run (fresh setting) cs) refl;
+      refuses = refused-exactly setting cs;
       once = once-law setting cs;
       counts = counts-law setting cs;
+      first-fit = first-fit setting cs;
+      resolved-by-a-call = placed-by-a-call setting cs .resolved;
+      listed-by-a-call = placed-by-a-call setting cs .listed;
       bindings = bindings-law setting cs;
+      get-identifier-reference = get-identifier-reference-law setting cs;
+      early-errors = early-errors-law setting cs;
+      conflicts = conflicts-law setting cs;
       room = never-full-law setting cs;
     }
 

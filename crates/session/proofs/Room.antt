@@ -2,9 +2,9 @@
 use mathlib.Core.Path.{_≡_, refl, sym, ap, _∙_}
 use mathlib.Core.List.{List, [], _∷_, _++_}
 use mathlib.Core.Bool.{Bool, true, cond}
-use Prim.Native.Nat.{ℕ, _+_, _<_}
+use Prim.Native.Nat.{ℕ, _+_, _<_, _≤_}
 use lib.ListN.{length, take, getD}
-use Rattle.std.proofs.shelf.Lists.{take-more}
+use Rattle.std.proofs.shelf.Lists.{take-more, take-all}
 use Rattle.std.specs.declared.option.Option.{Option}
 use Rattle.std.specs.declared.option.Option.the-variants.{Some, None}
 use Rattle.tables.specs.declared.refusal.Refusal.{Refusal}
@@ -65,3 +65,11 @@ module _ (setting : ℕ) (start : Machine) (restarted : start ≡ fresh setting)
       ∙ next-answers setting (take i cs) (getD cs i d) m a here h
       ∙ sym (ap (answers (fresh setting)) (take-more cs i d lies))
       ∙ sym (ap (λ x. answers x (take (i + 1) cs)) restarted)
+
+-- all calls are made
+module _ (setting : ℕ) (start : Machine) (restarted : start ≡ fresh setting) (cs : List Call) (i : ℕ) (over : length cs ≤ i) where
+  pub end-state : (m : Machine) → m ≡ run start (take i cs) → m ≡ run (fresh setting) cs
+  end-state m e = e ∙ ap (run start) (take-all i cs over) ∙ ap (λ x. run x cs) restarted
+
+  pub end-answers : (given : List Answer) → given ≡ answers start (take i cs) → given ≡ answers (fresh setting) cs
+  end-answers given e = e ∙ ap (answers start) (take-all i cs over) ∙ ap (λ x. answers x cs) restarted
