@@ -10,7 +10,7 @@ use Rattle.session.proofs.Laws.{ran}
 use Rattle.session.proofs.Room.{turn-state, turn-answers, end-state, end-answers}
 use Rattle.session.proofs.run.run.Needs as need
 
--- each `search needs` is the question whether the binder was restarted under the setting
+-- Each `search needs` asks whether the binder was restarted under the setting, and each `omega arith` where the loop stands.
 
 pub loop-call-again : need.loop-call-again
 loop-call-again g c = (
@@ -25,7 +25,7 @@ loop-call-again g c = (
 pub returns : need.returns
 returns g c =
     let after : g .T·Binding .state (c .loop-call .binder) ≡ machine.run (fresh (c .args .setting .bits)) (c .args .calls .now) =
-    end-state (c .args .setting .bits) _ (search needs) (c .args .calls .now) (c .loop-call .call-index) (c .loop-call-test .left) _ (c .loop-call .inv .0) in
+    end-state (c .args .setting .bits) _ (search needs) (c .args .calls .now) (c .loop-call .call-index) (omega arith) _ (c .loop-call .inv .0) in
     let answered : vec-items (c .loop-call .answers) ≡ machine.answers (fresh (c .args .setting .bits)) (c .args .calls .now) =
-    end-answers (c .args .setting .bits) _ (search needs) (c .args .calls .now) (c .loop-call .call-index) (c .loop-call-test .left) _ (c .loop-call .inv .1) in
+    end-answers (c .args .setting .bits) _ (search needs) (c .args .calls .now) (c .loop-call .call-index) (omega arith) _ (c .loop-call .inv .1) in
     record { answered = answered; after = after; lawful = ran (c .args .setting .bits) (c .args .calls .now) (g .T·Binding .state (c .loop-call .binder)) (vec-items (c .loop-call .answers)) after answered }
