@@ -72,7 +72,8 @@ pub data Way-to-var-scope (rows : List ScopeRow) : ℕ → ℕ → Type 0 where
 abbrev pub Writes-to : Machine → ℕ → ℕ → Type 0
 Writes-to m kind d = ((kind ≡ var-kind) × Way-to-var-scope (m .scopes) (m .current) d) ⊎ ((kind ≢ var-kind) × (d ≡ 1))
 
--- it may write a conflict and a hoisted variable for each of them
+-- there is room for 512 symbols, 256 redeclarations, 256 conflicts and 512 hoisted variables;
+-- a declaration may write a symbol, two redeclarations, and a conflict and a hoisted variable for each of its scopes
 abbrev pub No-room : Machine → ℕ → Type 0
 No-room m kind =
     (512 ≤ length (m .names .symbols))

@@ -2,7 +2,7 @@
 -- case by case, over single flags by their names, for all flags whatever.
 use Prim.Native.Nat.{ℕ}
 use mathlib.Core.Bool.{Bool, true, false, not, _&&_, _||_}
-use mathlib.Core.List.{List, [], _∷_}
+use mathlib.Core.List.{List, [], _∷_, _++_}
 use mathlib.Core.Path.{_≡_}
 use lib.Dec.{eqb}
 use Rattle.tables.specs.Flags.{meets, StrictMode, Top, Function, Arrow, ClassStaticBlock, TsModuleBlock, Constructor, GetAccessor, SetAccessor, CatchClause, DirectEval, TsConditional, Read, Write, TypeUse, ValueAsType, NamespaceUse, FunctionScopedVariable, BlockScopedVariable, ConstVariable, Class, CatchVariable, FunctionSymbol, FunctionExpression, AsyncOrGenerator, Import, TypeImport, TypeAlias, Interface, RegularEnum, ConstEnum, EnumMember, TypeParameter, Ambient}
@@ -28,14 +28,14 @@ values-and-types =
 -- what may stand behind a name, by how it is used
 
 abbrev pub is-value : ℕ → Bool
-is-value s = has-one s (FunctionScopedVariable ∷ BlockScopedVariable ∷ Class ∷ FunctionSymbol ∷ RegularEnum ∷ ConstEnum ∷ EnumMember ∷ Import ∷ [])
+is-value s = has-one s (values ++ Import ∷ [])
 
 abbrev pub is-type : ℕ → Bool
-is-type s = has-one s (Class ∷ TypeAlias ∷ Interface ∷ RegularEnum ∷ ConstEnum ∷ EnumMember ∷ TypeParameter ∷ Import ∷ TypeImport ∷ [])
+is-type s = has-one s (types ++ Import ∷ TypeImport ∷ [])
 
 -- by `typeof`: a value, and an import for types alone too
 abbrev pub has-typeof : ℕ → Bool
-has-typeof s = has-one s (FunctionScopedVariable ∷ BlockScopedVariable ∷ Class ∷ FunctionSymbol ∷ RegularEnum ∷ ConstEnum ∷ EnumMember ∷ Import ∷ TypeImport ∷ [])
+has-typeof s = has-one s (values ++ Import ∷ TypeImport ∷ [])
 
 -- in front of the dot of a qualified name
 abbrev pub has-members : ℕ → Bool
