@@ -1,9 +1,9 @@
 -- First fit, for every call of every run.
 use mathlib.Core.Path.{_≡_, refl, sym, ap, _∙_, subst}
-use mathlib.Core.List.{List, [], _∷_, _++_, append-nil, List·Memᴰ, List·Memᴰ·head, List·Memᴰ·not-nil}
-use mathlib.Core.Bool.{Bool, true, false, cond, not, _&&_}
+use mathlib.Core.List.{List, [], _∷_, List·Memᴰ, List·Memᴰ·head}
+use mathlib.Core.Bool.{cond, not, _&&_}
 use mathlib.Core.Logic.{⊎-elim, _⊎_, inl, inr}
-use Prim.Native.Nat.{ℕ, zero, suc, _+_, _≤_, _<_}
+use Prim.Native.Nat.{ℕ, suc}
 use native.Mathlib.Omega.{arith}
 use lib.Dec.{eqb, ltb}
 use lib.ListN.{length, take, drop}
@@ -11,7 +11,6 @@ use lib.Seq.{drop-length, take-length}
 use Rattle.std.proofs.shelf.Tests.{cond-both, true≢false, eqb-true, eq-eqb}
 use Rattle.std.proofs.shelf.Ways.{tells}
 use Rattle.std.specs.shelf.Lists.{All}
-use Rattle.std.specs.declared.option.Option.{Option}
 use Rattle.std.specs.declared.option.Option.the-variants.{Some, None}
 use Rattle.tables.specs.declared.refusal.Refusal.{Refusal}
 use Rattle.tables.specs.declared.refusal.Refusal.the-variants.{AtRoot, StartPastPending}
@@ -23,13 +22,13 @@ use Rattle.model.specs.declared.call.Answer.the-variants.{Refused}
 use Rattle.model.specs.Basics.{maybe}
 use Rattle.model.specs.State.{Machine, Names, Uses, fresh, use-flags}
 use Rattle.model.specs.Scopes.{parent-of, chain, is-below}
-use Rattle.model.specs.Resolving.{Fate, resolve-to, list-at-root, stay, settle-all, keep-pending, search, lookup-chain, chain-up-to, has-ended, fate-here, fate-at-end, resolve-here, resolve-end}
+use Rattle.model.specs.Resolving.{resolve-to, list-at-root, stay, settle-all, keep-pending, search, lookup-chain, chain-up-to, has-ended, fate-here, fate-at-end, resolve-here, resolve-end}
 use Rattle.model.specs.Calls.{refusal, granted, granted-answer, after, answer, run, with-uses}
-use Rattle.laws.specs.FirstFit.{Granted, Below, Settled, no-more, resolved, root-listed, outside, deferred, Settles, First-fit-right, First-fit}
+use Rattle.laws.specs.FirstFit.{Granted, Below, Settles, First-fit-right, First-fit}
 use Rattle.laws.proofs.Basics.{maybe-both, bool-cases, option-cases, none≢some}
 use Rattle.laws.proofs.Runs.{Good, run-good, fresh-good}
 use Rattle.laws.proofs.Searching.{first-from, none-from, part-first, part-ended, part-passed, below-is, below-high}
-use Rattle.laws.proofs.Single.{Single, Kept-single, taken-single, run-single, fresh-single}
+use Rattle.laws.proofs.Single.{Kept-single, taken-single, run-single, fresh-single}
 use Rattle.laws.proofs.Settling.{Right, Walked, walk}
 
 -- the fates depend on the flags of the entry's own reference alone

@@ -1,36 +1,33 @@
 -- References to plain values are looked up as by GetIdentifierReference.
 use mathlib.Core.Path.{_≡_, refl, sym, ap, _∙_, subst}
 use mathlib.Core.List.{List, [], _∷_, _++_}
-use mathlib.Core.Bool.{Bool, true, false, cond, not, _&&_, _||_}
-use mathlib.Core.Logic.{⊎-elim, _⊎_, inl, inr}
-use Prim.Native.Nat.{ℕ, zero, suc, _+_, _≤_, _<_}
+use mathlib.Core.Bool.{true, false, _&&_, _||_}
+use mathlib.Core.Logic.{⊎-elim, inl, inr}
+use Prim.Native.Nat.{ℕ, _+_, _<_}
 use native.Mathlib.Omega.{arith}
 use lib.Dec.{eqb, ltb}
-use lib.ListN.{length}
-use Rattle.std.proofs.shelf.Tests.{true≢false, eqb-true, eq-eqb, ne-eqb}
-use Rattle.std.specs.declared.option.Option.{Option}
+use Rattle.std.proofs.shelf.Tests.{true≢false, eq-eqb, ne-eqb}
 use Rattle.std.specs.declared.option.Option.the-variants.{Some, None}
-use Rattle.tables.specs.Flags.{meets, Read, Write, ValueUse, ValueAsType, ByValue}
+use Rattle.tables.specs.Flags.{meets, ValueUse, ValueAsType, ByValue}
 use Rattle.tables.specs.declared.id.ReferenceId.{ReferenceId}
 use Rattle.tables.specs.declared.refusal.Refusal.the-variants.{UnknownKind}
 use Rattle.tables.specs.declared.row.UnresolvedReference.{UnresolvedReference}
 use Rattle.model.specs.declared.call.Declaration.{Declaration}
 use Rattle.model.specs.declared.call.Call.{Call}
 use Rattle.model.specs.declared.call.Call.the-variants.{EnterScope, LeaveScope, Bind, DeclareReference, ResolveReferences, ResolveAllReferences}
-use Rattle.model.specs.Basics.{maybe}
 use Rattle.model.specs.Kinds.{TypeScript, manner}
-use Rattle.model.specs.State.{Machine, Names, fresh, flags-of}
+use Rattle.model.specs.State.{Machine, fresh, flags-of}
 use Rattle.model.specs.Scopes.{parent-of, is-strict, is-var}
 use Rattle.model.specs.Declaring.{binding}
-use Rattle.model.specs.Resolving.{can-resolve, of-arguments}
+use Rattle.model.specs.Resolving.{can-resolve}
 use Rattle.model.specs.Calls.{refusal, granted, after, run, told}
-use Rattle.laws.specs.FirstFit.{_∈_, Granted, Looks-in, Resolved-as, Root-listed-as, Deferred-as, flags-now, Means-arguments, Serves-at, Nothing-at, Goes-on, First-serving, serves-here, serves-above, None-serving, none-last, none-above, Passed-up, passed-last, passed-above}
-use Rattle.laws.specs.GetIdentifierReference.{Has-binding, Get-identifier-reference, unresolvable, has-binding, ask-outer, Unbound-up-to, at-last, on-the-way, Plain-value, Only-values, Looked-up, Get-identifier-reference-law}
-use Rattle.laws.proofs.Basics.{maybe-both, bool-cases, option-cases, none≢some, cond-is-true}
+use Rattle.laws.specs.FirstFit.{_∈_, Granted, Looks-in, Resolved-as, Root-listed-as, Deferred-as, flags-now, Means-arguments, Nothing-at, First-serving, serves-here, serves-above, None-serving, none-last, none-above, Passed-up, passed-last, passed-above}
+use Rattle.laws.specs.GetIdentifierReference.{Has-binding, Get-identifier-reference, unresolvable, has-binding, ask-outer, Unbound-up-to, at-last, on-the-way, Plain-value, Looked-up, Get-identifier-reference-law}
+use Rattle.laws.proofs.Basics.{maybe-both, option-cases, none≢some, cond-is-true}
 use Rattle.laws.proofs.Runs.{Good, run-good, fresh-good}
 use Rattle.laws.proofs.Single.{of-pending, times-there, times-same, Kept-single, run-single, fresh-single}
 use Rattle.laws.proofs.FirstFit.{granted-is}
-use Rattle.laws.proofs.PlacedByACall.{unplaced, One-call, one-call}
+use Rattle.laws.proofs.PlacedByACall.{unplaced, one-call}
 use Rattle.laws.proofs.Valued.{Valued, declare-valued, includes-value}
 
 -- no declaration of kind 0 is granted

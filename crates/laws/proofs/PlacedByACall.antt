@@ -1,11 +1,10 @@
 -- Which call put a reference into its list.
-use mathlib.Core.Path.{_≡_, refl, sym, ap, _∙_, subst}
-use mathlib.Core.List.{List, [], _∷_, _++_, List·Memᴰ, List·Memᴰ·head, List·Memᴰ·tail, List·Memᴰ·not-nil, List·Memᴰ·cases-cons, List·Memᴰ·append-cases, List·Memᴰ·eq-of-singleton, Memᴰ·cast}
+use mathlib.Core.Path.{_≡_, refl, ap, subst}
+use mathlib.Core.List.{List, [], _∷_, List·Memᴰ·head, List·Memᴰ·tail, List·Memᴰ·not-nil, List·Memᴰ·cases-cons, List·Memᴰ·append-cases, List·Memᴰ·eq-of-singleton, Memᴰ·cast}
 use mathlib.Core.Logic.{⊎-elim, _⊎_, inl, inr}
-use Prim.Native.Nat.{ℕ, zero, suc, _+_, _≤_, _<_}
+use Prim.Native.Nat.{ℕ, zero, suc}
 use native.Mathlib.Omega.{arith}
-use lib.ListN.{length, take, drop, take-append-drop}
-use Rattle.std.specs.declared.option.Option.the-variants.{Some, None}
+use lib.ListN.{length, take, drop}
 use Rattle.tables.specs.declared.id.ReferenceId.{ReferenceId}
 use Rattle.tables.specs.declared.row.UnresolvedReference.{UnresolvedReference}
 use Rattle.tables.specs.declared.row.ResolvedReference.{ResolvedReference}
@@ -14,7 +13,7 @@ use Rattle.model.specs.declared.call.Call.{Call}
 use Rattle.model.specs.declared.call.Call.the-variants.{EnterScope, LeaveScope, Bind, DeclareReference, ResolveReferences, ResolveAllReferences}
 use Rattle.model.specs.State.{Machine, Uses, fresh}
 use Rattle.model.specs.Calls.{refusal, after, run}
-use Rattle.laws.specs.FirstFit.{_∈_, Settles, First-fit-right, Looks-in, Deferred-as, Unplaced, Resolved-by, Listed-by, Some-call, Placed-by-a-call}
+use Rattle.laws.specs.FirstFit.{_∈_, Settles, Looks-in, Deferred-as, Unplaced, Resolved-by, Listed-by, Some-call, Placed-by-a-call}
 use Rattle.laws.proofs.Basics.{option-cases}
 use Rattle.laws.proofs.Runs.{Good, after-good, fresh-good}
 use Rattle.laws.proofs.Single.{of-pending, of-resolved, of-root, times-there, Kept-single, after-single, fresh-single}

@@ -1,12 +1,11 @@
 -- What a search along the lookup chain says of the bindings.
 use mathlib.Core.Path.{_≡_, refl, sym, ap, _∙_, subst}
-use mathlib.Core.List.{List, [], _∷_, _++_}
+use mathlib.Core.List.{List, [], _∷_}
 use mathlib.Core.Bool.{Bool, true, false, cond, not, _&&_}
-use Prim.Native.Nat.{ℕ, zero, suc, _+_, _≤_, _<_}
+use Prim.Native.Nat.{ℕ, zero, suc, _≤_, _<_}
 use native.Mathlib.Nat.{not-suc-le-zero}
 use native.Mathlib.Omega.{arith}
 use lib.Dec.{eqb}
-use lib.ListN.{length}
 use Rattle.std.proofs.shelf.Tests.{eqb-true, eq-eqb, true≢false, cond-both}
 use Rattle.std.specs.declared.option.Option.{Option}
 use Rattle.std.specs.declared.option.Option.the-variants.{Some, None}
@@ -14,11 +13,11 @@ use Rattle.tables.specs.Flags.{meets, FunctionExpression}
 use Rattle.tables.specs.declared.row.ScopeRow.{ScopeRow}
 use Rattle.tables.specs.declared.row.UnresolvedReference.{UnresolvedReference}
 use Rattle.model.specs.Basics.{maybe, until, any}
-use Rattle.model.specs.State.{Names, Uses, Machine, flags-of}
+use Rattle.model.specs.State.{Machine, flags-of}
 use Rattle.model.specs.Scopes.{parent-of, climb, chain, is-below, is-plain-function}
 use Rattle.model.specs.Declaring.{binding}
 use Rattle.model.specs.Resolving.{search, serving-in, serves, can-resolve, of-arguments, ends-at}
-use Rattle.laws.specs.FirstFit.{flags-now, Means-arguments, Serves-at, Nothing-at, Goes-on, First-serving, serves-here, serves-above, None-serving, none-last, none-above, Passed-up, passed-last, passed-above, Below, itself, child-of}
+use Rattle.laws.specs.FirstFit.{flags-now, Serves-at, Nothing-at, Goes-on, First-serving, serves-here, serves-above, None-serving, none-last, none-above, Passed-up, passed-last, passed-above, Below, itself, child-of}
 use Rattle.laws.proofs.Basics.{bool-cases, option-cases, cond-is-true, cond-is-false, none≢some, some-inj}
 use Rattle.laws.proofs.Tree.{Tree, chain-step}
 

@@ -1,15 +1,15 @@
 -- What a call that settles pending entries makes of them, one after the other.
 use mathlib.Core.Path.{_≡_, refl, sym, ap, _∙_, subst}
-use mathlib.Core.List.{List, [], _∷_, _++_, append-assoc, append-nil, List·Memᴰ, List·Memᴰ·head, List·Memᴰ·tail, List·Memᴰ·not-nil, List·Memᴰ·cases-cons, Memᴰ·cast}
-use mathlib.Core.Bool.{Bool, true, false, cond}
+use mathlib.Core.List.{List, [], _∷_, _++_, append-assoc, append-nil, List·Memᴰ·head, List·Memᴰ·tail, List·Memᴰ·not-nil, List·Memᴰ·cases-cons}
+use mathlib.Core.Bool.{cond}
 use mathlib.Core.Logic.{⊎-elim, _⊎_, inl, inr}
-use Prim.Native.Nat.{ℕ, zero, suc, _+_, _≤_, _<_}
+use Prim.Native.Nat.{ℕ, _<_}
 use native.Mathlib.Omega.{arith}
-use lib.ListN.{length, set}
+use lib.ListN.{length}
 use lib.Seq.{getD-set-same, getD-set-other}
-use Rattle.std.proofs.shelf.Tests.{eqb-true, eq-eqb, true≢false, cases-lt}
+use Rattle.std.proofs.shelf.Tests.{eqb-true, eq-eqb, cases-lt}
 use Rattle.std.specs.shelf.Lists.{All}
-use Rattle.std.specs.declared.option.Option.the-variants.{Some, None}
+use Rattle.std.specs.declared.option.Option.the-variants.{Some}
 use Rattle.tables.specs.declared.id.Name.{Name}
 use Rattle.tables.specs.declared.id.ReferenceId.{ReferenceId}
 use Rattle.tables.specs.declared.row.ReferenceRow.{ReferenceRow}
@@ -19,7 +19,7 @@ use Rattle.tables.specs.declared.row.RootReference.{RootReference}
 use Rattle.stores.specs.Pairs.{Pairs, put}
 use Rattle.stores.specs.Keys.{same-name}
 use Rattle.model.specs.Basics.{maybe, the-name, the-symbol}
-use Rattle.model.specs.State.{Machine, Names, Uses, no-reference, reference-row, use-flags, flags-of}
+use Rattle.model.specs.State.{Machine, Uses, no-reference, reference-row, use-flags, flags-of}
 use Rattle.model.specs.Resolving.{Fate, resolve-to, list-at-root, stay, settle, settle-all, resolved-row, resolved-flags, list-number, with-list, deferred as put-off}
 use Rattle.laws.specs.FirstFit.{_∈_, First-serving, None-serving, Passed-up, Resolved-as, Root-listed-as, Deferred-as, Settled, no-more, resolved, root-listed, outside, deferred}
 use Rattle.laws.proofs.Basics.{bool-cases, option-cases, cond-is-true, cond-is-false, none≢some}

@@ -1,31 +1,28 @@
 -- A name that only values were declared under: each symbol of that name is one that a reference to a value can resolve to.
 use mathlib.Core.Path.{_≡_, refl, sym, ap, _∙_, subst}
 use mathlib.Core.List.{List, [], _∷_, _++_}
-use mathlib.Core.Bool.{Bool, true, false, cond, not, _||_}
-use mathlib.Core.Logic.{⊎-elim, _⊎_, inl, inr}
-use Prim.Native.Nat.{ℕ, zero, suc, _+_, _*_, _/_, _%_, _≤_, _<_}
+use mathlib.Core.Bool.{true, cond, not}
+use mathlib.Core.Logic.{⊎-elim}
+use Prim.Native.Nat.{ℕ, zero, suc, _/_, _≤_, _<_}
 use native.Mathlib.Omega.{arith}
 use lib.Bits.{bitAnd, bitOr, and-step, or-step, and-zero-r}
-use lib.Dec.{eqb, ltb}
 use lib.ListN.{length, getD, set, take, drop, length-append, length-set, List·getD-append}
 use lib.Seq.{getD-append-seam, getD-set-same, getD-set-other}
-use Rattle.std.proofs.shelf.Tests.{cond-both, true≢false, eqb-true, eqb-false, eq-eqb, ne-eqb, cases-eq, cases-lt}
+use Rattle.std.proofs.shelf.Tests.{cond-both, true≢false, eq-eqb, ne-eqb, cases-eq, cases-lt}
 use Rattle.std.specs.shelf.Lists.{All}
 use Rattle.std.specs.Options.{isSome}
-use Rattle.std.specs.declared.option.Option.{Option}
-use Rattle.std.specs.declared.option.Option.the-variants.{Some, None}
 use Rattle.tables.specs.Flags.{meets, ByValue, Ambient, AsyncOrGenerator}
 use Rattle.tables.specs.declared.id.Name.{Name}
 use Rattle.tables.specs.declared.row.ScopeRow.{ScopeRow}
 use Rattle.tables.specs.declared.row.SymbolRow.{SymbolRow}
 use Rattle.model.specs.declared.manner.Manner.{Manner}
 use Rattle.model.specs.declared.manner.Manner.the-variants.{Here, Hoisted, MovedOut, Shadow, Conditional}
-use Rattle.model.specs.Basics.{maybe, the-name, the-scope, the-node, symbol-flags}
+use Rattle.model.specs.Basics.{the-name, the-scope, the-node, symbol-flags}
 use Rattle.model.specs.Kinds.{Declare, Async, Kind-row, kind, kinds, kind-row, includes}
 use Rattle.model.specs.State.{Names, no-symbol, symbol-row, flags-of}
 use Rattle.model.specs.Scopes.{passed, target, conditional-scope}
 use Rattle.model.specs.Declaring.{Told, Declared, binding, relocate, complain, add-symbol-redeclaration, unite, found, declare-shadow-symbol, declare-symbol-on-scope, move-binding, scan, hoist-all, with-hoisted, with-scope, declare-var, declare-moved-out, declare}
-use Rattle.laws.proofs.Basics.{set-keeps, maybe-both, bool-cases}
+use Rattle.laws.proofs.Basics.{maybe-both}
 
 -- more flags meet at least what fewer did
 and-grows : (n a b m : ℕ) → m ≤ n → bitAnd a m ≤ bitAnd (bitOr a b) m

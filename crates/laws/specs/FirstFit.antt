@@ -2,7 +2,6 @@
 use Prim.Native.Nat.{ℕ}
 use mathlib.Core.Bool.{true, false}
 use mathlib.Core.Path.{_≡_}
-use mathlib.Core.Logic.{_⊎_}
 use mathlib.Core.List.{List, [], _∷_, _++_, List·Memᴰ}
 use lib.ListN.{length, take, drop}
 use Rattle.std.specs.declared.option.Option.the-variants.{Some, None}
@@ -10,7 +9,6 @@ use Rattle.tables.specs.Flags.{meets, FunctionExpression}
 use Rattle.tables.specs.declared.refusal.Refusal.{Refusal}
 use Rattle.tables.specs.declared.id.Name.{Name}
 use Rattle.tables.specs.declared.id.ReferenceId.{ReferenceId}
-use Rattle.tables.specs.declared.row.ReferenceRow.{ReferenceRow}
 use Rattle.tables.specs.declared.row.UnresolvedReference.{UnresolvedReference}
 use Rattle.tables.specs.declared.row.ResolvedReference.{ResolvedReference}
 use Rattle.tables.specs.declared.row.RootReference.{RootReference}
@@ -20,7 +18,7 @@ use Rattle.model.specs.declared.call.NewReference.{NewReference}
 use Rattle.model.specs.declared.call.Call.{Call}
 use Rattle.model.specs.declared.call.Call.the-variants.{EnterScope, LeaveScope, Bind, DeclareReference, ResolveReferences, ResolveAllReferences}
 use Rattle.model.specs.declared.call.Answer.the-variants.{Refused}
-use Rattle.model.specs.Basics.{the-symbol, the-reference, reference-flags}
+use Rattle.model.specs.Basics.{the-reference, reference-flags}
 use Rattle.model.specs.State.{Machine, Uses, fresh, flags-of, use-flags, reference-row}
 use Rattle.model.specs.Scopes.{parent-of, is-plain-function}
 use Rattle.model.specs.Declaring.{binding}
