@@ -19,7 +19,7 @@ use Rattle.laws.proofs.PlacedByACall.{placed-by-a-call}
 use Rattle.laws.proofs.RefusedExactly.{refused-exactly}
 use Rattle.laws.proofs.Runs.{bindings-law}
 use Rattle.session.specs.Laws.{Equal, Lawful, Applied, Keeps-laws, Ran}
-use Rattle.session.proofs.Room.{same-after, next-state, next-answer, next-answers}
+use Rattle.session.proofs.Steps.{next-state, next-answer, next-answers}
 
 equal-from : (m n : Machine) → m ≡ n → Equal m n
 equal-from m n e =
@@ -68,7 +68,7 @@ pub applied : (old : Machine) (c : Call) (a : Answer) (new : Machine) → a ≡ 
 applied old c a new p q setting cs e =
     record {
       answered = next-answer setting cs c old a e p ∙ ap (λ x. answer x c) (sym e);
-      state = q ∙ ap (λ x. builder-after x c) e ∙ same-after setting cs c ∙ ap (λ x. after x c) (sym e);
+      state = q ∙ ap (λ x. builder-after x c) e ∙ never-full-law setting cs .same-after c ∙ ap (λ x. after x c) (sym e);
       before-it = lawful setting cs old (answers (fresh setting) cs) e refl;
       after-it = lawful setting (cs ++ c ∷ []) new (answers (fresh setting) cs ++ a ∷ []) (next-state setting cs c old new e q) (next-answers setting cs c old a e p);
     }

@@ -7,7 +7,7 @@ use Rattle.model.specs.declared.call.Answer.{Answer}
 use Rattle.model.specs.State.{fresh}
 use Rattle.model.specs.Calls as machine
 use Rattle.session.proofs.Laws.{ran}
-use Rattle.session.proofs.Room.{turn-state, turn-answers, end-state, end-answers}
+use Rattle.session.proofs.Steps.{turn-state, turn-answers, end-state, end-answers}
 use Rattle.session.proofs.run.run.Needs as need
 
 -- Each `search needs` asks whether the binder was restarted under the setting, and each `omega arith` where the loop stands.

@@ -1,49 +1,23 @@
--- After every list of calls a binder does and answers what the reference machine does, since its stores have room.
-use mathlib.Core.Path.{_≡_, refl, sym, ap, _∙_}
+-- A binder goes on as the reference machine does, one call after the other.
+use mathlib.Core.Path.{_≡_, sym, ap, _∙_}
 use mathlib.Core.List.{List, [], _∷_, _++_}
-use mathlib.Core.Bool.{Bool, true, cond}
 use Prim.Native.Nat.{ℕ, _+_, _<_, _≤_}
 use lib.ListN.{length, take, getD}
 use Rattle.std.proofs.shelf.Lists.{take-more, take-all}
-use Rattle.std.specs.declared.option.Option.{Option}
-use Rattle.std.specs.declared.option.Option.the-variants.{Some, None}
-use Rattle.tables.specs.declared.refusal.Refusal.{Refusal}
-use Rattle.tables.specs.declared.refusal.Refusal.the-variants.{StoreFull}
 use Rattle.model.specs.declared.call.Call.{Call}
 use Rattle.model.specs.declared.call.Answer.{Answer}
-use Rattle.model.specs.declared.call.Answer.the-variants.{Refused}
-use Rattle.model.specs.Basics.{maybe}
 use Rattle.model.specs.State.{Machine, fresh}
-use Rattle.model.specs.Calls.{run, answers, refusal, granted, granted-answer, after, answer, stores-have-room, builder-refusal, builder-after, builder-answer}
-use Rattle.laws.specs.NeverFull.{Has-room}
+use Rattle.model.specs.Calls.{run, answers, answer, builder-after, builder-answer}
 use Rattle.laws.proofs.Limits.{never-full-law}
 use Rattle.laws.proofs.LongerRuns.{longer-law}
 
--- refused for a full store, else as the machine refuses
-with-room : (why : Option Refusal) (room : Bool) → (why ≡ None → room ≡ true) → maybe why (cond room None (Some StoreFull)) Some ≡ why
-with-room None room h = ap (λ b. cond b None (Some StoreFull)) (h refl)
-with-room (Some r) room h = refl
-
 module _ (setting : ℕ) (cs : List Call) (c : Call) where
-  same-refusal : builder-refusal (run (fresh setting) cs) c ≡ refusal (run (fresh setting) cs) c
-  unfolding builder-refusal
-  same-refusal =
-      with-room (refusal (run (fresh setting) cs) c) (stores-have-room (run (fresh setting) cs) c) (never-full-law setting cs .for-call c)
-
-  pub same-after : builder-after (run (fresh setting) cs) c ≡ after (run (fresh setting) cs) c
-  unfolding builder-after after
-  same-after = ap {B = Machine} (λ why. maybe why (granted (run (fresh setting) cs) c) (λ n. run (fresh setting) cs)) same-refusal
-
-  same-answer : builder-answer (run (fresh setting) cs) c ≡ answer (run (fresh setting) cs) c
-  unfolding builder-answer answer
-  same-answer = ap {B = Answer} (λ why. maybe why (granted-answer (run (fresh setting) cs) c) Refused) same-refusal
-
   -- one call more, by a binder whose state is the machine's after the calls before
   pub next-state : (m n : Machine) → m ≡ run (fresh setting) cs → n ≡ builder-after m c → n ≡ run (fresh setting) (cs ++ c ∷ [])
-  next-state m n e h = h ∙ ap (λ x. builder-after x c) e ∙ same-after ∙ sym (longer-law (fresh setting) cs c .state)
+  next-state m n e h = h ∙ ap (λ x. builder-after x c) e ∙ never-full-law setting cs .same-after c ∙ sym (longer-law (fresh setting) cs c .state)
 
   pub next-answer : (m : Machine) (a : Answer) → m ≡ run (fresh setting) cs → a ≡ builder-answer m c → a ≡ answer (run (fresh setting) cs) c
-  next-answer m a e h = h ∙ ap (λ x. builder-answer x c) e ∙ same-answer
+  next-answer m a e h = h ∙ ap (λ x. builder-answer x c) e ∙ never-full-law setting cs .same-answer c
 
   pub next-answers : (m : Machine) (a : Answer) → m ≡ run (fresh setting) cs → a ≡ builder-answer m c → answers (fresh setting) cs ++ a ∷ [] ≡ answers (fresh setting) (cs ++ c ∷ [])
   next-answers m a e h = ap {B = List Answer} (λ x. answers (fresh setting) cs ++ x ∷ []) (next-answer m a e h) ∙ sym (longer-law (fresh setting) cs c .answered)
