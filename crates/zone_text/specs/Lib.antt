@@ -1,2 +1,4 @@
 pub mod Pieces
 pub mod Numbers
+pub mod Fields
+pub mod Lines

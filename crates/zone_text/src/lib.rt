@@ -3,4 +3,5 @@
 pub mod number;
 pub mod operation;
 pub mod separator;
+pub mod verb;
 pub mod words;
