@@ -1,5 +1,6 @@
 //! The text of an operation list and of a listing: what the program `zone` reads and writes.
 
+pub mod line;
 pub mod number;
 pub mod operation;
 pub mod separator;

@@ -5,7 +5,7 @@ use model::call::Call;
 pub enum Operation {
     /// The bits of the setting under which the list is run.
     Setting(u8),
-    Call(Call),
+    Run(Call),
 }
 
 /// What is wrong with a line.

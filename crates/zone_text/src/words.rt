@@ -13,6 +13,7 @@ use crate::separator::Separator;
 use crate::separator::cut;
 
 /// What is left of a line that has no comment.
+#[derive(Drop)]
 pub struct Words<'a> {
     pub rest: &'a [u8],
 }
