@@ -3,6 +3,7 @@
 pub mod line;
 pub mod number;
 pub mod operation;
+pub mod script;
 pub mod separator;
 pub mod verb;
 pub mod words;
