@@ -56,3 +56,22 @@ impl Script {
         }
     }
 }
+
+/// The operations of a text, or its first line that is none.
+pub fn parse(heap: Global, text: &[u8]) -> Result<Script, ParseError>
+    ensures { λ r. ⌜ Cases r (λ s. text-meaning (now (text .entry)) ≡ Ok (content s)) (λ e. Tells e (text-meaning (now (text .entry)))) ⌝ }
+{
+    let mut script = Script {
+        setting: None,
+        calls: Vec::new(heap),
+    };
+    let mut rest = text;
+    let mut number = 1;
+    while !rest.is_empty() {
+        let (line, behind) = cut(rest, Separator::Newline);
+        script.add_line(number, line)?;
+        rest = behind;
+        number += 1;
+    }
+    Ok(script)
+}

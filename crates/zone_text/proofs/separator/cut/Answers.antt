@@ -30,6 +30,6 @@ returns-then-is-empty c =
 
 pub returns-else-is-empty : need.returns-else-is-empty
 returns-else-is-empty c = record {
-      front = front _ _ _ _ (c .count-before .ensures) (c .split-at .ensures .front);
-      back = take-rest (c .split-at .result .1 .now) 1 ∙ back _ _ _ _ (c .count-before .ensures) (c .split-at .ensures .back);
-    }
+  front = front _ _ _ _ (c .count-before .ensures) (c .split-at .ensures .front);
+  back = take-rest (c .split-at .result .1 .now) 1 ∙ back _ _ _ _ (c .count-before .ensures) (c .split-at .ensures .back);
+}
