@@ -1,6 +1,7 @@
 //! The text of an operation list and of a listing: what the program `zone` reads and writes.
 
 pub mod line;
+pub mod listing;
 pub mod number;
 pub mod operation;
 pub mod script;
