@@ -2,6 +2,7 @@
 
 pub mod line;
 pub mod listing;
+pub mod message;
 pub mod number;
 pub mod operation;
 pub mod script;
