@@ -1,0 +1,4 @@
+pub mod Basics
+pub mod Tree
+pub mod Sound
+pub mod Runs

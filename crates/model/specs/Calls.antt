@@ -11,6 +11,8 @@ use Rattle.tables.specs.Flags.{meets, less, all-scope-flags, all-reference-flag
 use Rattle.tables.specs.declared.row.ScopeRow.{ScopeRow}
 use Rattle.tables.specs.declared.refusal.Refusal.{Refusal}
 use Rattle.tables.specs.declared.refusal.Refusal.the-variants.{UnlistedBits, UnknownKind, ModifierNotOfKind, SpanReversed, NoSuchScope, ScopesFull, DeclarationsFull, ReferencesFull, AtRoot, StartPastPending, StoreFull}
+pub use Rattle.tables.specs.Limits.{most-scopes, most-symbols, most-references, most-redeclarations, most-conflicts, most-hoisted, no-room}
+use Rattle.stores.specs.Pairs.{least-capacity}
 use Rattle.model.specs.declared.call.NewScope.{NewScope}
 use Rattle.model.specs.declared.call.Declaration.{Declaration}
 use Rattle.model.specs.declared.call.NewReference.{NewReference}
@@ -25,26 +27,6 @@ use Rattle.model.specs.State.{Names, Uses, Machine, scope-row}
 use Rattle.model.specs.Scopes.{parent-of, flags-in, is-var, is-strict, chain, target, passed, conditional-scope, is-below}
 use Rattle.model.specs.Declaring.{Told, Declared, declare, add-symbol-redeclaration, unite, complain, found, declare-shadow-symbol, declare-symbol-on-scope, move-binding, scan, hoist-all, declare-var, declare-moved-out}
 use Rattle.model.specs.Resolving.{resolve-end, resolve-here, lookup-chain, search, settle, settle-all, fate-at-end, fate-here, has-ended}
-
--- the limits
-
-abbrev pub most-scopes : ℕ
-most-scopes = 256
-
-abbrev pub most-symbols : ℕ
-most-symbols = 512
-
-abbrev pub most-references : ℕ
-most-references = 512
-
-abbrev pub most-redeclarations : ℕ
-most-redeclarations = 256
-
-abbrev pub most-conflicts : ℕ
-most-conflicts = 256
-
-abbrev pub most-hoisted : ℕ
-most-hoisted = 512
 
 -- the first refusal whose condition holds
 
@@ -64,11 +46,9 @@ first-of (t ∷ ts) = cond (t .holds) (Some (t .refusal)) (first-of ts)
 abbrev pub reach : Machine → ℕ → ℕ
 reach m kind = cond (eqb kind 1) (suc (length (passed (m .scopes) (m .current)))) 1
 
--- a declaration writes at most one symbol and two redeclarations, and at most a conflict and a hoisted variable for each scope
 abbrev pub declarations-full : Machine → ℕ → Bool
 declarations-full m kind =
-    leb most-symbols (length (m .names .symbols)) || ltb most-redeclarations (length (m .names .redeclarations) + 2)
-    || ltb most-conflicts (length (m .names .conflicts) + reach m kind) || ltb most-hoisted (m .names .hoisting .size + reach m kind)
+    no-room (length (m .names .symbols)) (length (m .names .redeclarations)) (length (m .names .conflicts)) (m .names .hoisting .size) (reach m kind)
 
 -- why a call is refused, if it is
 unfoldable pub refusal : Machine → Call → Option Refusal
@@ -168,6 +148,27 @@ run m (c ∷ cs) = run (after m c) cs
 abbrev pub answers : Machine → List Call → List Answer
 answers m [] = []
 answers m (c ∷ cs) = answer m c ∷ answers (after m c) cs
+
+-- A builder keeps its pairs in stores, which hold 512 pairs at least. Before it writes, it tests that they have room for all the keys
+-- that the call may add, and else refuses with StoreFull. No run from a fresh machine comes to that.
+
+-- the stores have room for all the keys that a call may add
+abbrev pub stores-have-room : Machine → Call → Bool
+stores-have-room m (EnterScope s) = true
+stores-have-room m LeaveScope = true
+stores-have-room m (Bind d) = ltb (m .names .bindings .size) least-capacity
+stores-have-room m (DeclareReference r) = true
+stores-have-room m (ResolveReferences start) = leb (m .uses .roots .size + (length (m .uses .pending) - start)) least-capacity
+stores-have-room m ResolveAllReferences = leb (m .uses .roots .size + length (m .uses .pending)) least-capacity
+
+unfoldable pub builder-refusal : Machine → Call → Option Refusal
+builder-refusal m c = maybe (refusal m c) (cond (stores-have-room m c) None (Some StoreFull)) Some
+
+unfoldable pub builder-after : Machine → Call → Machine
+builder-after m c = maybe (builder-refusal m c) (granted m c) (λ n. m)
+
+unfoldable pub builder-answer : Machine → Call → Answer
+builder-answer m c = maybe (builder-refusal m c) (granted-answer m c) Refused
 
 -- every definition of the machine, for a proof that computes it
 unfoldable pub machine-opened : Unit {0}

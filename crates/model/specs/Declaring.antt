@@ -13,6 +13,7 @@ use Rattle.tables.specs.declared.row.ScopeRow.{ScopeRow}
 use Rattle.tables.specs.declared.row.SymbolRow.{SymbolRow}
 use Rattle.tables.specs.declared.row.Redeclaration.{Redeclaration}
 use Rattle.tables.specs.declared.row.Conflict.{Conflict}
+pub use Rattle.tables.specs.Contents.{has-redeclaration}
 use Rattle.stores.specs.Pairs.{Pairs, put, drop-pair}
 use Rattle.stores.specs.Keys.{same-scope-and-name}
 use Rattle.stores.specs.declared.key.ScopeAndName.{ScopeAndName}
@@ -69,10 +70,6 @@ with-flags r f = record { name = r .name; start = r .start; end = r .end; flags 
 
 abbrev pub with-scope : SymbolRow → ℕ → SymbolRow
 with-scope r s = record { name = r .name; start = r .start; end = r .end; flags = r .flags; scope = the-scope s; node = r .node }
-
-abbrev pub has-redeclaration : ℕ → List Redeclaration → Bool
-has-redeclaration s [] = false
-has-redeclaration s (e ∷ es) = eqb (e .symbol .0) s || has-redeclaration s es
 
 abbrev pub first-declaration : ℕ → SymbolRow → Redeclaration
 first-declaration s r = record { symbol = the-symbol s; start = r .start; end = r .end; node = r .node; flags = r .flags }

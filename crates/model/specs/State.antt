@@ -15,9 +15,10 @@ use Rattle.tables.specs.declared.row.UnresolvedReference.{UnresolvedReference}
 use Rattle.tables.specs.declared.row.ResolvedReference.{ResolvedReference}
 use Rattle.tables.specs.declared.row.RootReference.{RootReference}
 use Rattle.tables.specs.declared.id.Name.{Name}
+pub use Rattle.tables.specs.EmptyRows.{no-scope, no-symbol, no-reference}
 use Rattle.stores.specs.Pairs.{Pairs, no-pairs}
 use Rattle.stores.specs.declared.key.ScopeAndName.{ScopeAndName}
-use Rattle.model.specs.Basics.{the-scope, the-symbol, the-reference, the-node, the-name, scope-flags, symbol-flags, reference-flags}
+use Rattle.model.specs.Basics.{the-node, scope-flags}
 use Rattle.model.specs.Kinds.{StrictRoot}
 
 -- what declarations make: bindings and hoisted variables lead from a scope and a name to a symbol's number
@@ -57,15 +58,6 @@ abbrev pub fresh : ℕ → Machine
 fresh s = record { setting = s; current = 0; scopes = root-row s ∷ []; names = no-names; uses = no-uses }
 
 -- An id that leads to no row reads as an empty row. No run comes upon one.
-
-abbrev pub no-scope : ScopeRow
-no-scope = record { parent = None; node = the-node 0; flags = scope-flags 0 }
-
-abbrev pub no-symbol : SymbolRow
-no-symbol = record { name = the-name 0; start = 0; end = 0; flags = symbol-flags 0; scope = the-scope 0; node = the-node 0 }
-
-abbrev pub no-reference : ReferenceRow
-no-reference = record { node = the-node 0; flags = reference-flags 0; symbol = None }
 
 abbrev pub scope-row : List ScopeRow → ℕ → ScopeRow
 scope-row rows s = getD rows s no-scope

@@ -1,1 +1,2 @@
 pub mod Nths
+pub mod TreeRows

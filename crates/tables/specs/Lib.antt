@@ -1,4 +1,9 @@
 pub mod Flags
 pub mod Refusals
-pub mod RowList
 pub mod Spans
+pub mod Ids
+pub mod EmptyRows
+pub mod Limits
+pub mod RowList
+pub mod Trees
+pub mod Contents

@@ -2,7 +2,9 @@
 
 pub mod flags;
 pub mod id;
+pub mod limits;
 pub mod refusal;
 pub mod row;
-pub mod rows;
+mod rows;
+pub mod scoping;
 pub mod span;

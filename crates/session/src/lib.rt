@@ -1,0 +1,3 @@
+//! The six calls as a trait over the reference machine's state, and what follows for every list of calls, with no store in sight.
+
+pub mod binding;
