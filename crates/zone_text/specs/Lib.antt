@@ -3,5 +3,4 @@ pub mod Numbers
 pub mod Fields
 pub mod Lines
 pub mod Scripts
-pub mod Listing
 pub mod Messages

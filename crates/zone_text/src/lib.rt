@@ -1,7 +1,6 @@
-//! The text of an operation list and of a listing: what the program `zone` reads and writes.
+//! The text of an operation list: what the program `zone` reads.
 
 pub mod line;
-pub mod listing;
 pub mod message;
 pub mod number;
 pub mod operation;

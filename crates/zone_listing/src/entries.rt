@@ -1,6 +1,6 @@
 //! The lines of bindings and of lists. An index counts from 0.
 ghost use Rattle.std.specs.declared.option.Option.the-variants.{Some};
-ghost use Rattle.zone_text.specs.Listing.{binding-line, hoisting-line, redeclaration-line, conflict-line, pending-line, resolved-line, root-line};
+ghost use Rattle.zone_listing.specs.Listing.{binding-line, hoisting-line, redeclaration-line, conflict-line, pending-line, resolved-line, root-line};
 use std::fmt;
 use stores::key::ScopeAndName;
 use tables::id::Name;

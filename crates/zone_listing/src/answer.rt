@@ -1,6 +1,6 @@
 //! The line of an answer.
 ghost use Rattle.std.specs.declared.option.Option.the-variants.{Some};
-ghost use Rattle.zone_text.specs.Listing.{answer-line};
+ghost use Rattle.zone_listing.specs.Listing.{answer-line};
 use model::call::Answer;
 use std::fmt;
 

@@ -11,17 +11,17 @@ use Rattle.stores.specs.declared.key.ScopeAndName.{ScopeAndName}
 use Rattle.model.specs.Basics.{scope-number, symbol-number}
 use Rattle.model.specs.declared.call.Answer.{Answer}
 use Rattle.model.specs.declared.call.Answer.the-variants.{Scope, Symbol, Reference, Counted, Refused}
-use Rattle.zone_text.specs.declared.listing.entries.BindingLine.{BindingLine}
-use Rattle.zone_text.specs.declared.listing.entries.HoistingLine.{HoistingLine}
-use Rattle.zone_text.specs.declared.listing.entries.RedeclarationLine.{RedeclarationLine}
-use Rattle.zone_text.specs.declared.listing.entries.ConflictLine.{ConflictLine}
-use Rattle.zone_text.specs.declared.listing.entries.PendingLine.{PendingLine}
-use Rattle.zone_text.specs.declared.listing.entries.ResolvedLine.{ResolvedLine}
-use Rattle.zone_text.specs.declared.listing.entries.RootLine.{RootLine}
-use Rattle.zone_text.specs.declared.listing.rows.CurrentLine.{CurrentLine}
-use Rattle.zone_text.specs.declared.listing.rows.ScopeLine.{ScopeLine}
-use Rattle.zone_text.specs.declared.listing.rows.SymbolLine.{SymbolLine}
-use Rattle.zone_text.specs.declared.listing.rows.ReferenceLine.{ReferenceLine}
+use Rattle.zone_listing.specs.declared.entries.BindingLine.{BindingLine}
+use Rattle.zone_listing.specs.declared.entries.HoistingLine.{HoistingLine}
+use Rattle.zone_listing.specs.declared.entries.RedeclarationLine.{RedeclarationLine}
+use Rattle.zone_listing.specs.declared.entries.ConflictLine.{ConflictLine}
+use Rattle.zone_listing.specs.declared.entries.PendingLine.{PendingLine}
+use Rattle.zone_listing.specs.declared.entries.ResolvedLine.{ResolvedLine}
+use Rattle.zone_listing.specs.declared.entries.RootLine.{RootLine}
+use Rattle.zone_listing.specs.declared.rows.CurrentLine.{CurrentLine}
+use Rattle.zone_listing.specs.declared.rows.ScopeLine.{ScopeLine}
+use Rattle.zone_listing.specs.declared.rows.SymbolLine.{SymbolLine}
+use Rattle.zone_listing.specs.declared.rows.ReferenceLine.{ReferenceLine}
 
 abbrev pub answer-line : Answer → List ℕ
 answer-line (Scope s) = codes "scope " ++ decimal (s .0)

@@ -1,6 +1,6 @@
 //! The lines of scopes, symbols and references.
 ghost use Rattle.std.specs.declared.option.Option.the-variants.{Some};
-ghost use Rattle.zone_text.specs.Listing.{number-or-dash, current-line, scope-line, symbol-line, reference-line};
+ghost use Rattle.zone_listing.specs.Listing.{number-or-dash, current-line, scope-line, symbol-line, reference-line};
 use std::fmt;
 use tables::id::ReferenceId;
 use tables::id::ScopeId;

@@ -1,5 +1,0 @@
-//! The lines of a listing: one for each answer, and then one for each row of each table.
-
-pub mod answer;
-pub mod entries;
-pub mod rows;
