@@ -4,3 +4,4 @@ pub mod Fields
 pub mod Lines
 pub mod Scripts
 pub mod Messages
+pub mod Examples

@@ -1,5 +1,6 @@
 //! The text of an operation list: what the program `zone` reads.
 
+pub mod examples;
 pub mod line;
 pub mod message;
 pub mod number;
