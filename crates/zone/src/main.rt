@@ -1,4 +1,7 @@
 //! The program `zone`: reads an operation list, runs it, and lists the answers and the tables.
+mod script_names;
+mod table_writer;
+
 use model::call::Answer;
 use model::setting::Setting;
 use std::env;

@@ -6,13 +6,12 @@ use Rattle.std.specs.declared.option.Option.{Option}
 use Rattle.std.specs.declared.option.Option.the-variants.{Some, None}
 use Rattle.std.specs.Written.{decimal}
 use Rattle.tables.specs.Refusals.{number-of}
-use Rattle.tables.specs.declared.id.SymbolId.{SymbolId}
-use Rattle.stores.specs.declared.key.ScopeAndName.{ScopeAndName}
 use Rattle.model.specs.Basics.{scope-number, symbol-number}
 use Rattle.model.specs.declared.call.Answer.{Answer}
 use Rattle.model.specs.declared.call.Answer.the-variants.{Scope, Symbol, Reference, Counted, Refused}
-use Rattle.zone_listing.specs.declared.entries.BindingLine.{BindingLine}
-use Rattle.zone_listing.specs.declared.entries.HoistingLine.{HoistingLine}
+use Rattle.zone_listing.specs.declared.entries.PairTable.{PairTable}
+use Rattle.zone_listing.specs.declared.entries.PairTable.the-variants.{Bindings, Hoisting}
+use Rattle.zone_listing.specs.declared.entries.PairLine.{PairLine}
 use Rattle.zone_listing.specs.declared.entries.RedeclarationLine.{RedeclarationLine}
 use Rattle.zone_listing.specs.declared.entries.ConflictLine.{ConflictLine}
 use Rattle.zone_listing.specs.declared.entries.PendingLine.{PendingLine}
@@ -51,14 +50,12 @@ abbrev pub reference-line : ReferenceLine → List ℕ
 reference-line x =
     codes "reference " ++ (decimal (x .reference .0) ++ (codes " node " ++ (decimal (x .row .node .0) ++ (codes " flags " ++ (decimal (x .row .flags .0) ++ (codes " symbol " ++ number-or-dash (symbol-number (x .row .symbol))))))))
 
-abbrev pub pair-text : ScopeAndName → SymbolId → List ℕ
-pair-text key symbol = decimal (key .scope .0) ++ (codes " " ++ (decimal (key .name .0) ++ (codes " " ++ decimal (symbol .0))))
+abbrev pub table-word : PairTable → List ℕ
+table-word Bindings = codes "binding"
+table-word Hoisting = codes "hoisting"
 
-abbrev pub binding-line : BindingLine → List ℕ
-binding-line x = codes "binding " ++ pair-text (x .key) (x .symbol)
-
-abbrev pub hoisting-line : HoistingLine → List ℕ
-hoisting-line x = codes "hoisting " ++ pair-text (x .key) (x .symbol)
+abbrev pub pair-line : PairLine → List ℕ
+pair-line x = table-word (x .table) ++ (codes " " ++ (decimal (x .key .scope .0) ++ (codes " " ++ (decimal (x .key .name .0) ++ (codes " " ++ decimal (x .symbol .0))))))
 
 abbrev pub redeclaration-line : RedeclarationLine → List ℕ
 redeclaration-line x =

@@ -1,6 +1,7 @@
 //! The lines of bindings and of lists. An index counts from 0.
+ghost use mathlib.Core.Path.{_≡_};
 ghost use Rattle.std.specs.declared.option.Option.the-variants.{Some};
-ghost use Rattle.zone_listing.specs.Listing.{binding-line, hoisting-line, redeclaration-line, conflict-line, pending-line, resolved-line, root-line};
+ghost use Rattle.zone_listing.specs.Listing.{table-word, pair-line, redeclaration-line, conflict-line, pending-line, resolved-line, root-line};
 use std::fmt;
 use stores::key::ScopeAndName;
 use tables::id::Name;
@@ -11,14 +12,16 @@ use tables::row::Redeclaration;
 use tables::row::ResolvedReference;
 use tables::row::UnresolvedReference;
 
+/// The tables that lead from a scope and a name to a symbol.
 #[derive(Clone, Copy)]
-pub struct BindingLine {
-    pub key: ScopeAndName,
-    pub symbol: SymbolId,
+pub enum PairTable {
+    Bindings,
+    Hoisting,
 }
 
 #[derive(Clone, Copy)]
-pub struct HoistingLine {
+pub struct PairLine {
+    pub table: PairTable,
     pub key: ScopeAndName,
     pub symbol: SymbolId,
 }
@@ -57,25 +60,26 @@ pub struct RootLine {
     pub reference: ReferenceId,
 }
 
-pub impl fmt::Display for BindingLine as BindingLineDisplay {
-    ghost shown = { λ x. Some (binding-line x) };
-
-    fn fmt<W: fmt::Write>(&self, f: &mut fmt::Formatter<W>) -> fmt::Result {
-        write!(
-            f,
-            "binding {} {} {}",
-            self.key.scope.0, self.key.name.0, self.symbol.0
-        )
+impl PairTable {
+    /// The first word of its lines.
+    fn word(self) -> &'static str
+        ensures { λ r. ⌜ now r ≡ table-word self ⌝ }
+    {
+        match self {
+            PairTable::Bindings => "binding",
+            PairTable::Hoisting => "hoisting",
+        }
     }
 }
 
-pub impl fmt::Display for HoistingLine as HoistingLineDisplay {
-    ghost shown = { λ x. Some (hoisting-line x) };
+pub impl fmt::Display for PairLine as PairLineDisplay {
+    ghost shown = { λ x. Some (pair-line x) };
 
     fn fmt<W: fmt::Write>(&self, f: &mut fmt::Formatter<W>) -> fmt::Result {
+        let word = self.table.word();
         write!(
             f,
-            "hoisting {} {} {}",
+            "{word} {} {} {}",
             self.key.scope.0, self.key.name.0, self.symbol.0
         )
     }
