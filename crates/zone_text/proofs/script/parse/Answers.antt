@@ -41,7 +41,7 @@ pub loop-rest-again : need.loop-rest-again
 loop-rest-again c =
     let less = rest-shorter (separates Newline) _ (now (c .cut .result .0)) _ (c .loop-rest-test .ensures tt) (c .cut .ensures .front) (c .cut .ensures .back) in
     let step = piece-step (separates Newline) _ _ _ (c .loop-rest-test .ensures tt) (c .cut .ensures .front) (c .cut .ensures .back) in
-    (after-good _ _ _ _ _ _ step (c .loop-rest .inv .0) _ (c .in-Continue-add-line .ensures tt), omega arith)
+    (after-good _ _ _ _ _ _ step (c .loop-rest .inv .0) (content (c .add-line .last .self)) (c .in-Continue-add-line .ensures tt), omega arith)
 
 pub returns : need.returns
 returns c = sym (c .loop-rest .inv .0) ∙ ap (λ l. with-lines (c .loop-rest .number) (content (c .loop-rest .script)) (lines l)) (none-is-nil _ (c .loop-rest-test .ensures tt))
