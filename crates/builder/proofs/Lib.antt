@@ -11,3 +11,4 @@ pub mod MovedOut
 pub mod KindFacts
 pub mod Kept
 pub mod Refusing
+pub mod Binding

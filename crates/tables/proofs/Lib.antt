@@ -1,2 +1,3 @@
 pub mod Nths
 pub mod TreeRows
+pub mod Bounds
