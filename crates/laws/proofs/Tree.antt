@@ -16,11 +16,11 @@ use Rattle.tables.specs.Flags.{meets, VarScope}
 use Rattle.tables.specs.Trees as trees
 use Rattle.tables.specs.declared.row.ScopeRow.{ScopeRow}
 use Rattle.tables.proofs.TreeRows as tree-rows
-use Rattle.model.specs.Basics.{maybe, scope-number, before, first}
+use Rattle.model.specs.Basics.{maybe, scope-number, first}
 use Rattle.model.specs.State.{no-scope}
 use Rattle.model.specs.Scopes.{parent-of, is-var, climb, chain, passed, target}
-use Rattle.model.proofs.Chains.{at-chain-more}
-use Rattle.laws.proofs.Basics.{set-keeps, bool-cases, option-cases, cond-is-true, cond-is-false, none≢some, some-inj}
+use Rattle.model.proofs.Walks.{target-here, target-up, passed-here, passed-up}
+use Rattle.laws.proofs.Basics.{set-keeps, bool-cases, option-cases, none≢some, some-inj}
 
 -- every scope but the root has a parent of a lower number; the root has none, and is a var scope
 pub record Tree (rows : List ScopeRow) : Type 0 where
@@ -37,22 +37,14 @@ module _ (rows : List ScopeRow) (tree : Tree rows) where
       (λ e. absurd (true≢false (sym (tree .top) ∙ ap (is-var rows) (sym (tree .only-root s h e)) ∙ v)))
       (λ p e. (p, e))
 
-  pub target-here : (s : ℕ) → is-var rows s ≡ true → target rows s ≡ s
-  unfolding chain target
-  target-here s v = cond-is-true (is-var rows s) s _ v
-
-  pub target-up : (s p : ℕ) → is-var rows s ≡ false → parent-of rows s ≡ Some p → target rows s ≡ target rows p
-  unfolding target
-  target-up s p v e = at-chain-more rows (tree .lower) (first (is-var rows) 0) s p e ∙ cond-is-false (is-var rows s) s _ v
-
   pub target-var : (f s : ℕ) → s < f → s < length rows → is-var rows (target rows s) ≡ true
   target-var zero s h k = absurd (not-suc-le-zero h)
   target-var (suc f) s h k =
       bool-cases (is-var rows s) (is-var rows (target rows s) ≡ true)
-      (λ v. ap (is-var rows) (target-here s v) ∙ v)
+      (λ v. ap (is-var rows) (target-here rows (tree .lower) s v) ∙ v)
       (λ v. let q : (p : ℕ) × (parent-of rows s ≡ Some p) = has-parent s k v in
       let l : q .0 < s = tree .lower s (q .0) (q .1) in
-      ap (is-var rows) (target-up s (q .0) v (q .1)) ∙ target-var f (q .0) (omega arith) (omega arith))
+      ap (is-var rows) (target-up rows (tree .lower) s (q .0) v (q .1)) ∙ target-var f (q .0) (omega arith) (omega arith))
 
   -- what a var passes on the way to the target t
   pub record Passes (t s : ℕ) : Type 0 where
@@ -60,24 +52,16 @@ module _ (rows : List ScopeRow) (tree : Tree rows) where
     pub no-var : is-var rows s ≡ false
     pub goal : target rows s ≡ t
 
-  pub passed-here : (s : ℕ) → is-var rows s ≡ true → passed rows s ≡ []
-  unfolding chain passed
-  passed-here s v = cond-is-true (is-var rows s) [] _ v
-
-  pub passed-up : (s p : ℕ) → is-var rows s ≡ false → parent-of rows s ≡ Some p → passed rows s ≡ s ∷ passed rows p
-  unfolding passed
-  passed-up s p v e = at-chain-more rows (tree .lower) (before (is-var rows)) s p e ∙ cond-is-false (is-var rows s) [] _ v
-
   pub passed-all : (f t s : ℕ) → s < f → s < length rows → target rows s ≡ t → All (Passes t) (passed rows s)
   passed-all zero t s h k e = absurd (not-suc-le-zero h)
   passed-all (suc f) t s h k e =
       bool-cases (is-var rows s) (All (Passes t) (passed rows s))
-      (λ v. subst (All (Passes t)) (sym (passed-here s v)) tt)
+      (λ v. subst (All (Passes t)) (sym (passed-here rows (tree .lower) s v)) tt)
       (λ v. let q : (p : ℕ) × (parent-of rows s ≡ Some p) = has-parent s k v in
       let l : q .0 < s = tree .lower s (q .0) (q .1) in
-      subst (All (Passes t)) (sym (passed-up s (q .0) v (q .1))) (
+      subst (All (Passes t)) (sym (passed-up rows (tree .lower) s (q .0) v (q .1))) (
         record { lies = k; no-var = v; goal = e },
-        passed-all f t (q .0) (omega arith) (omega arith) (sym (target-up s (q .0) v (q .1)) ∙ e),
+        passed-all f t (q .0) (omega arith) (omega arith) (sym (target-up rows (tree .lower) s (q .0) v (q .1)) ∙ e),
       ))
 
 -- scopes that have come to be, or changed, and left the others as they were
