@@ -1,17 +1,16 @@
 -- Small facts on options, tests, places and bits.
 use mathlib.Core.Path.{_≡_, refl, sym, ap, _∙_, subst}
-use mathlib.Core.List.{List, [], _∷_, _++_}
-use mathlib.Core.Bool.{Bool, true, false, cond, not, _&&_, _||_}
-use Prim.Native.Nat.{ℕ, zero, suc, _+_, _≤_, _<_, _%_, _^_}
+use mathlib.Core.List.{List, [], _∷_}
+use mathlib.Core.Bool.{Bool, true, false, cond, _&&_}
+use Prim.Native.Nat.{ℕ, zero, suc, _<_, _%_}
 use native.Mathlib.Nat.{mod-eq-of-lt, lt-of-le-of-lt}
 use native.Mathlib.Omega.{arith}
 use lib.Bits.{bitAnd, bitOr, and-mod, or-mod, and-zero-r, or-zero-r, and-le-r}
-use lib.Dec.{eqb, lit<}
-use lib.ListN.{length, getD, set}
-use Rattle.std.proofs.shelf.Tests.{eqb-true, eq-eqb, eqb-false, true≢false}
+use lib.Dec.{eqb}
+use lib.ListN.{getD, set}
+use Rattle.std.proofs.shelf.Tests.{eqb-true, eq-eqb, true≢false}
 use Rattle.std.specs.declared.option.Option.{Option}
 use Rattle.std.specs.declared.option.Option.the-variants.{Some, None}
-use Rattle.tables.specs.Flags.{meets, VarScope}
 use Rattle.std.specs.Options.{isSome}
 use Rattle.stores.specs.Pairs.{Pairs}
 use Rattle.stores.specs.Keys.{same-scope-and-name}
@@ -80,10 +79,6 @@ eval-apart mask h f g =
     low mask (bitOr f (bitAnd g 1024)) h
     ∙ ap (λ t. bitAnd t (mask % 64)) (or-mod f (bitAnd g 1024) 6 ∙ ap (bitOr (f % 64)) (and-mod g 1024 6 ∙ and-zero-r (g % 64)) ∙ or-zero-r (f % 64))
     ∙ sym (low mask f h)
-
-pub maybe-cong : {X Y : Type 0} (o : Option X) (d : Y) (f g : X → Y) → ((x : X) → o ≡ Some x → f x ≡ g x) → maybe o d f ≡ maybe o d g
-maybe-cong None d f g h = refl
-maybe-cong (Some x) d f g h = h x refl
 
 -- maps that hold the same, and as much, are one
 pub pairs-path : {K : Type 0} (p q : Pairs K) → ((k : K) → p .get k ≡ q .get k) → p .size ≡ q .size → p ≡ q

@@ -14,11 +14,12 @@ use Rattle.tables.specs.declared.row.ScopeRow.{ScopeRow}
 use Rattle.model.specs.declared.call.Declaration.{Declaration}
 use Rattle.model.specs.Basics.{maybe, first}
 use Rattle.model.specs.State.{Names, Machine, flags-of}
-use Rattle.model.specs.Scopes.{parent-of, flags-in, climb, chain}
+use Rattle.model.specs.Scopes.{parent-of, flags-in, chain}
 use Rattle.model.specs.Declaring.{binding, hoisted, found, not-expression}
 use Rattle.laws.specs.Conflicts.{Leads-to, Beside, Nearest, Nowhere, Stopped-by, Reaches, Var, Infer, Made-in, Comes-upon, Told-apart, by-binding, by-hoisting, itself, above, at-top, nor-above, stopped-here, stopped-above, reached, passes, var-scope, conditional, no-conditional, current-scope, on-the-way, in-scope}
 use Rattle.laws.proofs.Basics.{bool-cases, option-cases, cond-is-true, cond-is-false, none≢some, some-inj}
-use Rattle.laws.proofs.Tree.{Tree, chain-step}
+use Rattle.model.proofs.Chains.{at-chain-more, at-chain-top}
+use Rattle.laws.proofs.Tree.{Tree}
 
 -- what stands beside a name in a scope
 module _ (nm : Names) (s n : ℕ) where
@@ -91,22 +92,18 @@ module _ (rows : List ScopeRow) (set : ℕ) where
   not-nowhere t s (above _ p v e r) (nor-above _ p′ v′ e′ r′) = not-nowhere t p r (subst (Nowhere rows set) (some-inj p′ p (sym e′ ∙ e)) r′)
 
   module _ (tree : Tree rows) where
-    chain-top : (s : ℕ) → parent-of rows s ≡ None → chain rows s ≡ s ∷ []
-    unfolding chain
-    chain-top s e = ap {B = List ℕ} (λ o. s ∷ maybe o [] (climb rows s)) e
-
     -- the first of the chain, or another if there is none
     pub first-of-chain : (other f s : ℕ) → s < f
         → (Nearest rows set (first (λ p. meets (flags-in rows p) set) other (chain rows s)) s) ⊎ (Nowhere rows set s × (first (λ p. meets (flags-in rows p) set) other (chain rows s) ≡ other))
     first-of-chain other zero s h = absurd (not-suc-le-zero h)
     first-of-chain other (suc f) s h =
         option-cases (parent-of rows s) (Result s)
-        (λ e. subst (λ c. Of c s) (sym (chain-top s e))
+        (λ e. subst (λ c. Of c s) (sym (at-chain-top rows (tree .lower) (λ c. c) s e))
         (bool-cases (meets (flags-in rows s) set) (Of (s ∷ []) s)
         (λ v. inl (subst (λ t. Nearest rows set t s) (sym (cond-is-true (meets (flags-in rows s) set) s other v)) (itself v)))
         (λ v. inr (at-top s v e, cond-is-false (meets (flags-in rows s) set) s other v))))
         (λ p e. let l : p < s = tree .lower s p e in
-        subst (λ c. Of c s) (sym (chain-step rows tree s p e))
+        subst (λ c. Of c s) (sym (at-chain-more rows (tree .lower) (λ c. c) s p e))
         (bool-cases (meets (flags-in rows s) set) (Of (s ∷ chain rows p) s)
         (λ v. inl (subst (λ t. Nearest rows set t s) (sym (cond-is-true (meets (flags-in rows s) set) s _ v)) (itself v)))
         (λ v. let up = sym (cond-is-false (meets (flags-in rows s) set) s (first (λ q. meets (flags-in rows q) set) other (chain rows p)) v) in

@@ -12,7 +12,6 @@ use Rattle.tables.specs.Flags.{meets}
 use Rattle.tables.specs.declared.row.ScopeRow.{ScopeRow}
 use Rattle.tables.specs.declared.row.Conflict.{Conflict}
 use Rattle.model.specs.declared.call.Declaration.{Declaration}
-use Rattle.model.specs.declared.manner.Manner.the-variants.{Here, MovedOut}
 use Rattle.model.specs.Kinds.{TypeScript, includes, excludes}
 use Rattle.model.specs.State.{Names, Machine, flags-of}
 use Rattle.model.specs.Scopes.{is-var, is-strict, passed}
@@ -26,7 +25,7 @@ use Rattle.laws.proofs.Runs.{Good}
 use Rattle.laws.proofs.ComesUpon.{beside-found, found-beside}
 use Rattle.laws.proofs.Scanning.{Stops, at-once, higher, stop, stop-passes, nearest-var}
 use Rattle.laws.proofs.Written.{noted, again-noted, again-united, hoist-all-alike, move-alike}
-use Rattle.laws.proofs.Forms.{Form, form-stopped, form-reached, form-shadow, form-infer, form-moved, form-here, up, hoisted-out, Ranged, found-there, stop-found}
+use Rattle.laws.proofs.Forms.{Form, form-stopped, form-reached, form-shadow, form-infer, form-moved, form-here, up, hoisted-out, Ranged, found-there, stop-found, here-not-out}
 use Rattle.laws.proofs.Outcomes.{on-scope-none, on-scope-some}
 use Rattle.laws.proofs.FourKinds.{Lex, Plain, plain-value, plain-no-expression, lexical-includes, var-includes, lexical-excludes, var-excludes, lexical-manner}
 use Rattle.laws.proofs.EarlyTables.{Base, Hoists, make-new, make-keeps, make-base, noted-base, united-base, united-lexes, hoisting-base, hoisting-binds, hoisting-keeps, hoisting-there}
@@ -324,7 +323,4 @@ module _ (m : Machine) (d : Declaration) (good : Good m) (g : Ranged (m .names))
   four-step four (form-shadow k e) = let l = four .1 in absurd (omega arith)
   four-step four (form-infer k e) = let l = four .1 in absurd (omega arith)
   four-step four (form-moved v k i o e) = absurd (here-not-out (sym (lexical-manner (d .modifiers) (meets (m .setting) TypeScript) (is-strict rows here) (is-var rows here) (d .kind) (let l = four .0 in omega arith, four .1)) ∙ o))
-    where
-      here-not-out : Here ≡ MovedOut → ⊥
-      here-not-out q = let z : _≡_ {A = ℕ} 0 1 = cc in omega arith
   four-step four (form-here v k i o e) = subst (λ (r : Declared). Early rows (r .names) more) (sym e) (lexical-step (let l = four .0 in omega arith, four .1))

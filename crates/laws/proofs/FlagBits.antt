@@ -64,7 +64,7 @@ or-none x y =
     (cases-eq x 0)
 
 -- a set of flags is met if one of its parts is
-meets-either : (s a b : ℕ) → meets s (bitOr a b) ≡ (meets s a || meets s b)
+pub meets-either : (s a b : ℕ) → meets s (bitOr a b) ≡ (meets s a || meets s b)
 meets-either s a b = ap (λ x. not (eqb x 0)) (and-or s a b) ∙ or-none (bitAnd s a) (bitAnd s b)
 
 -- a digit is 0 or 1

@@ -31,6 +31,9 @@ use Rattle.laws.proofs.Runs.{Good, after-good}
 use Rattle.laws.proofs.FlagSets.{misses-part}
 use Rattle.laws.proofs.Scanning.{Stops, at-once, higher, stop, scan-comes-to}
 
+pub here-not-out : Here ≡ MovedOut → ⊥
+here-not-out o = let z : _≡_ {A = ℕ} 0 1 = cc in omega arith
+
 -- the scopes on the way see the symbol as a hoisted variable
 abbrev pub hoisted-out : List ScopeRow → ℕ → ℕ → Declared → Declared
 hoisted-out rows here name r = record { names = hoist-all (r .names) (passed rows here) name (r .symbol); symbol = r .symbol }
@@ -90,9 +93,6 @@ module _ (m : Machine) (d : Declaration) where
       (cases-eq (d .kind) 18))
       (cases-eq (d .kind) 8))
       (cases-eq (d .kind) 1)
-    where
-      here-not-out : Here ≡ MovedOut → ⊥
-      here-not-out o = let z : _≡_ {A = ℕ} 0 1 = cc in omega arith
 
 -- hoisted variables lead to symbols that are there
 abbrev pub Ranged : Names → Type 0

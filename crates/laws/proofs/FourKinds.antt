@@ -9,7 +9,8 @@ use Rattle.tables.specs.Flags.{meets, less, FunctionScopedVariable, BlockScoped
 use Rattle.model.specs.declared.manner.Manner.the-variants.{Here}
 use Rattle.model.specs.Kinds.{Declare, Async, includes, excludes, manner}
 use Rattle.laws.specs.EarlyErrors.{Is-lexical}
-use Rattle.laws.proofs.FlagSets.{meets-either, meets-united, meets-whole, misses-part}
+use Rattle.laws.proofs.FlagBits.{meets-either}
+use Rattle.laws.proofs.FlagSets.{meets-united, meets-whole, misses-part}
 
 -- what let and class give, and var beside them
 abbrev pub Lex : ℕ

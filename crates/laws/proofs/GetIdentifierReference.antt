@@ -23,9 +23,10 @@ use Rattle.model.specs.Resolving.{can-resolve}
 use Rattle.model.specs.Calls.{refusal, granted, after, run, told}
 use Rattle.laws.specs.FirstFit.{_∈_, Granted, Looks-in, Resolved-as, Root-listed-as, Deferred-as, flags-now, Means-arguments, Nothing-at, First-serving, serves-here, serves-above, None-serving, none-last, none-above, Passed-up, passed-last, passed-above}
 use Rattle.laws.specs.GetIdentifierReference.{Has-binding, Get-identifier-reference, unresolvable, has-binding, ask-outer, Unbound-up-to, at-last, on-the-way, Plain-value, Looked-up, Get-identifier-reference-law}
+use Rattle.laws.specs.OnceLaw.{of-pending}
 use Rattle.laws.proofs.Basics.{maybe-both, option-cases, none≢some, cond-is-true}
 use Rattle.laws.proofs.Runs.{Good, run-good, fresh-good}
-use Rattle.laws.proofs.Single.{of-pending, times-there, times-same, Kept-single, run-single, fresh-single}
+use Rattle.laws.proofs.Single.{times-there, times-same, Kept-single, run-single, fresh-single}
 use Rattle.laws.proofs.FirstFit.{granted-is}
 use Rattle.laws.proofs.PlacedByACall.{unplaced, one-call}
 use Rattle.laws.proofs.Valued.{Valued, declare-valued, includes-value}

@@ -27,18 +27,9 @@ pub record Grown (symbols hoists : ℕ) (nm nm′ : Names) : Type 0 where
 pub grown-refl : (s h : ℕ) (nm : Names) → Grown s h nm nm
 grown-refl s h nm = record { longer = omega arith; same-names = λ k l. refl; few-symbols = omega arith; few-hoists = omega arith }
 
-pub grown-trans : (s h : ℕ) (a b c : Names) → Grown s 0 a b → Grown 0 h b c → Grown s h a c
-grown-trans s h a b c p q =
-    record {
-      longer = omega arith;
-      same-names = λ k l. let x = p .longer in q .same-names k (omega arith) ∙ p .same-names k l;
-      few-symbols = omega arith;
-      few-hoists = omega arith;
-    }
-
--- after a step that adds nothing
-pub grown-after : (s h : ℕ) (a b c : Names) → Grown 0 0 a b → Grown s h b c → Grown s h a c
-grown-after s h a b c p q =
+-- two steps
+pub grown-then : {s h s′ h′ : ℕ} (symbols hoists : ℕ) (a b c : Names) → Grown s h a b → Grown s′ h′ b c → s + s′ ≤ symbols → h + h′ ≤ hoists → Grown symbols hoists a c
+grown-then symbols hoists a b c p q few few-hoists =
     record {
       longer = omega arith;
       same-names = λ k l. let x = p .longer in q .same-names k (omega arith) ∙ p .same-names k l;
@@ -98,8 +89,8 @@ module _ (d : Told) where
       let G : Declared → Type 0 = λ r. Grown 1 0 nm (r .names) in
       maybe-both (found nm p (d .name)) _ _ G (λ _. scan-grown t ps nm)
       (λ s _. cond-both (meets (flags-of nm s) ByValue) _ _ G
-      (λ _. grown-after 1 0 nm (add-symbol-redeclaration d (complain d nm s) s) _ (noted nm s) (move-grown 1 0 (add-symbol-redeclaration d (complain d nm s) s) p t (d .name) s))
-      (λ _. grown-after 1 0 nm (complain d nm s) _ (complained nm s) (scan-grown t ps (complain d nm s))))
+      (λ _. grown-then 1 0 nm (add-symbol-redeclaration d (complain d nm s) s) _ (noted nm s) (move-grown 1 0 (add-symbol-redeclaration d (complain d nm s) s) p t (d .name) s) (omega arith) (omega arith))
+      (λ _. grown-then 1 0 nm (complain d nm s) _ (complained nm s) (scan-grown t ps (complain d nm s)) (omega arith) (omega arith)))
 
   -- a hoisted variable more, at most
   hoisted-one : (nm : Names) (p name s : ℕ) → with-hoisted nm p name s .hoisting .size ≤ suc (nm .hoisting .size)
@@ -131,15 +122,15 @@ module _ (d : Told) where
     declare-grown Here nm = declare-on-grown nm here
     declare-grown Hoisted nm =
         let r = scan d (target rows here) nm (passed rows here) in
-        grown-trans 1 (length (passed rows here)) nm (r .names) _ (scan-grown (target rows here) (passed rows here) nm) (hoist-all-grown (passed rows here) (d .name) (r .symbol) (r .names))
+        grown-then 1 (length (passed rows here)) nm (r .names) _ (scan-grown (target rows here) (passed rows here) nm) (hoist-all-grown (passed rows here) (d .name) (r .symbol) (r .names)) (omega arith) (omega arith)
     declare-grown MovedOut nm =
         let q = declare-symbol-on-scope d nm here in
         let g = declare-on-grown nm here in
         let t = target rows here in
         let moved = move-binding (q .names) here t (d .name) (q .symbol) in
         cond-both (isSome (binding (q .names) t (d .name))) (q .names) (with-hoisted moved here (d .name) (q .symbol)) (Grown 1 1 nm)
-        (λ _. grown-trans 1 1 nm (q .names) (q .names) g (grown-refl 0 1 (q .names)))
-        (λ _. let g′ = grown-trans 1 0 nm (q .names) moved g (move-grown 0 0 (q .names) here t (d .name) (q .symbol)) in
+        (λ _. grown-then 1 1 nm (q .names) (q .names) g (grown-refl 0 1 (q .names)) (omega arith) (omega arith))
+        (λ _. let g′ = grown-then 1 0 nm (q .names) moved g (move-grown 0 0 (q .names) here t (d .name) (q .symbol)) (omega arith) (omega arith) in
         let one = hoisted-one moved here (d .name) (q .symbol) in
         record { longer = g′ .longer; same-names = g′ .same-names; few-symbols = g′ .few-symbols; few-hoists = let a = g′ .few-hoists in omega arith })
     declare-grown Shadow nm = make-grown nm here

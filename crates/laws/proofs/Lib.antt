@@ -10,7 +10,7 @@ pub mod Placing
 pub mod OnceRuns
 pub mod Limits
 pub mod LongerRuns
-mod FlagBits
+pub mod FlagBits
 mod FlagWords
 pub mod RefusedExactly
 pub mod Searching

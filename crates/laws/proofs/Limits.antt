@@ -5,7 +5,7 @@ use mathlib.Core.Bool.{true, false, cond, not, _||_}
 use Prim.Native.Nat.{ℕ, suc, _+_, _-_, _≤_, _<_}
 use native.Mathlib.Omega.{arith}
 use lib.Dec.{eqb, ltb, leb}
-use lib.ListN.{length, length-append, length-set}
+use lib.ListN.{length, length-append}
 use Rattle.std.proofs.shelf.Tests.{cond-both, or-parts, ltb-false, leb-false, lt-ltb, le-leb}
 use Rattle.std.specs.shelf.Lists.{All}
 use Rattle.std.specs.declared.option.Option.{Option}
@@ -25,13 +25,14 @@ use Rattle.model.specs.Kinds.{kind-row, last-kind}
 use Rattle.model.specs.Basics.{maybe}
 use Rattle.model.specs.State.{Machine, Names, Uses, fresh}
 use Rattle.model.specs.Scopes.{passed}
-use Rattle.model.specs.Resolving.{Fate, resolve-to, list-at-root, stay, settle, settle-all, resolve-end, resolve-here}
+use Rattle.model.specs.Resolving.{Fate, settle, settle-all, resolve-end, resolve-here}
 use Rattle.model.specs.Calls.{Test, _if_, first-of, most-references, refusal, granted, after, run, told, reach, declarations-full, stores-have-room, answer, granted-answer, builder-refusal, builder-after, builder-answer}
 use Rattle.laws.specs.NeverFull.{Never-full}
 use Rattle.laws.proofs.Basics.{bool-cases, maybe-both, none≢some, cond-is-true}
 use Rattle.laws.proofs.Runs.{run-good, fresh-good}
 use Rattle.laws.proofs.Growing.{hoists, declare-grown}
 use Rattle.laws.proofs.Numbering.{numbered-few}
+use Rattle.laws.proofs.Single.{settle-rows}
 use Rattle.laws.proofs.OnceRuns.{manner-here, always-ordered, rows-counted}
 
 pub record Limited (m : Machine) : Type 0 where
@@ -77,12 +78,6 @@ reference-room m r e =
     (none-holds (UnlistedBits if ltb all-reference-flags (r .flags .0) ∷ NoSuchScope if leb (length (m .scopes)) (r .scope .0) ∷ ReferencesFull if leb most-references (length (m .uses .references)) ∷ []) e .1 .1 .0)
 
 -- resolving leaves as many reference rows
-settle-rows : (nm : Names) (us : Uses) (e : UnresolvedReference) (f : Fate) → length (settle nm us e f .references) ≡ length (us .references)
-unfolding settle
-settle-rows nm us e (resolve-to s) = simp length-set
-settle-rows nm us e list-at-root = refl
-settle-rows nm us e (stay s) = refl
-
 settle-all-rows : (nm : Names) (fate : Uses → UnresolvedReference → Fate) (es : List UnresolvedReference) (us : Uses) → length (settle-all nm fate us es .references) ≡ length (us .references)
 unfolding settle-all
 settle-all-rows nm fate [] us = refl

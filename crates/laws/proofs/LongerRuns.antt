@@ -1,9 +1,7 @@
-use mathlib.Core.Path.{_≡_, refl, ap}
-use mathlib.Core.List.{List, [], _∷_, _++_}
-use Rattle.model.specs.declared.call.Call.{Call}
+use mathlib.Core.Path.{refl, ap}
+use mathlib.Core.List.{List, [], _∷_}
 use Rattle.model.specs.declared.call.Answer.{Answer}
-use Rattle.model.specs.State.{Machine}
-use Rattle.model.specs.Calls.{run, after, answer, answers}
+use Rattle.model.specs.Calls.{after, answer}
 use Rattle.laws.specs.LongerRuns.{One-longer, Longer-from-shorter}
 
 pub longer-law : Longer-from-shorter

@@ -14,9 +14,10 @@ use Rattle.model.specs.declared.call.Call.the-variants.{EnterScope, LeaveScope,
 use Rattle.model.specs.State.{Machine, Uses, fresh}
 use Rattle.model.specs.Calls.{refusal, after, run}
 use Rattle.laws.specs.FirstFit.{_∈_, Settles, Looks-in, Deferred-as, Unplaced, Resolved-by, Listed-by, Some-call, Placed-by-a-call}
+use Rattle.laws.specs.OnceLaw.{of-pending, of-resolved, of-root}
 use Rattle.laws.proofs.Basics.{option-cases}
 use Rattle.laws.proofs.Runs.{Good, after-good, fresh-good}
-use Rattle.laws.proofs.Single.{of-pending, of-resolved, of-root, times-there, Kept-single, after-single, fresh-single}
+use Rattle.laws.proofs.Single.{times-there, Kept-single, after-single, fresh-single}
 use Rattle.laws.proofs.Settling.{resolved-from, listed-from, left-from}
 use Rattle.laws.proofs.FirstFit.{granted-is, refused-is, first-fit-right}
 

@@ -25,7 +25,8 @@ use Rattle.model.specs.State.{Machine, fresh}
 use Rattle.model.specs.Scopes.{parent-of, flags-in, is-var, passed}
 use Rattle.model.specs.Calls.{Test, first-of, refusal, after, answer, granted, granted-answer, reach, declarations-full, run, _if_, most-scopes, most-references}
 use Rattle.laws.proofs.Basics.{none≢some, some-inj, option-cases, bool-cases}
-use Rattle.laws.proofs.Tree.{Tree, has-parent, passed-here, passed-up}
+use Rattle.model.proofs.Walks.{passed-here, passed-up}
+use Rattle.laws.proofs.Tree.{Tree, has-parent}
 use Rattle.laws.proofs.Runs.{Good, fresh-good, run-good}
 use Rattle.laws.proofs.FlagBits.{meets-set, set-has, flag-has, less-has, nothing-has, some-flag}
 use Rattle.laws.specs.HasFlag.{has, among}
@@ -278,15 +279,15 @@ module _ (rows : List ScopeRow) (tree : Tree rows) where
   way-found zero s h l = absurd (omega arith)
   way-found (suc f) s h l =
       bool-cases (is-var rows s) (Way-to-var-scope rows s (suc (length (passed rows s))))
-      (λ v. subst (λ ps. Way-to-var-scope rows s (suc (length ps))) (sym (passed-here rows tree s v)) (here s (sym (var-holds s) ∙ v)))
+      (λ v. subst (λ ps. Way-to-var-scope rows s (suc (length ps))) (sym (passed-here rows (tree .lower) s v)) (here s (sym (var-holds s) ∙ v)))
       (λ v. let q : (p : ℕ) × (parent-of rows s ≡ Some p) = has-parent rows tree s l v in
       let b : q .0 < s = tree .lower s (q .0) (q .1) in
-      subst (λ ps. Way-to-var-scope rows s (suc (length ps))) (sym (passed-up rows tree s (q .0) v (q .1)))
+      subst (λ ps. Way-to-var-scope rows s (suc (length ps))) (sym (passed-up rows (tree .lower) s (q .0) v (q .1)))
       (up s (q .0) (suc (length (passed rows (q .0)))) (sym (var-holds s) ∙ v) (q .1) (way-found f (q .0) (omega arith) (omega arith))))
 
   way-only : {s n : ℕ} → Way-to-var-scope rows s n → n ≡ suc (length (passed rows s))
-  way-only (here s v) = sym (ap (λ (ps : List ℕ). suc (length ps)) (passed-here rows tree s (var-holds s ∙ v)))
-  way-only (up s p k v e w) = ap suc (way-only w) ∙ sym (ap (λ (ps : List ℕ). suc (length ps)) (passed-up rows tree s p (var-holds s ∙ v) e))
+  way-only (here s v) = sym (ap (λ (ps : List ℕ). suc (length ps)) (passed-here rows (tree .lower) s (var-holds s ∙ v)))
+  way-only (up s p k v e w) = ap suc (way-only w) ∙ sym (ap (λ (ps : List ℕ). suc (length ps)) (passed-up rows (tree .lower) s p (var-holds s ∙ v) e))
 
 module _ (m : Machine) (kind : ℕ) (good : Good m) where
   writes : Writes-to m kind (reach m kind)

@@ -1,30 +1,24 @@
 -- What every run keeps of the scopes and the names.
-use mathlib.Core.Path.{_≡_, refl, sym, ap, _∙_, subst}
+use mathlib.Core.Path.{_≡_, refl, sym, ap, _∙_}
 use mathlib.Core.List.{List, [], _∷_, _++_}
-use mathlib.Core.Bool.{Bool, true, false, cond, not, _&&_, _||_}
-use Prim.Native.Nat.{ℕ, zero, suc, pred, _+_, _≤_, _<_}
+use mathlib.Core.Bool.{Bool, true, false, not}
+use Prim.Native.Nat.{ℕ, zero, suc, _+_, _<_}
 use native.Mathlib.Omega.{arith}
-use lib.Bits.{bitAnd, bitOr}
 use lib.Dec.{eqb, lit<}
-use lib.ListN.{length, getD, set, length-append, length-set}
+use lib.ListN.{length, set, length-append, length-set}
 use Rattle.std.proofs.shelf.Tests.{cond-both}
 use Rattle.std.proofs.shelf.Ways.{tells}
-use Rattle.std.specs.declared.option.Option.{Option}
 use Rattle.std.specs.declared.option.Option.the-variants.{Some, None}
 use Rattle.tables.specs.Flags.{meets, VarScope}
-use Rattle.tables.specs.declared.row.ScopeRow.{ScopeRow}
 use Rattle.model.specs.declared.call.Call.{Call}
 use Rattle.model.specs.declared.call.Call.the-variants.{EnterScope, LeaveScope, Bind, DeclareReference, ResolveReferences, ResolveAllReferences}
-use Rattle.model.specs.declared.call.Declaration.{Declaration}
-use Rattle.model.specs.declared.manner.Manner.{Manner}
-use Rattle.model.specs.declared.manner.Manner.the-variants.{Here, Hoisted, MovedOut, Shadow, Conditional}
-use Rattle.model.specs.Basics.{maybe}
-use Rattle.model.specs.Kinds.{StrictRoot, TypeScript, Async, manner}
-use Rattle.model.specs.State.{Machine, Names, fresh, root-row}
+use Rattle.model.specs.declared.manner.Manner.the-variants.{MovedOut}
+use Rattle.model.specs.Kinds.{StrictRoot, TypeScript, manner}
+use Rattle.model.specs.State.{Machine, fresh, root-row}
 use Rattle.model.specs.Scopes.{parent-of, flags-in, is-var, is-strict}
 use Rattle.model.specs.Calls.{granted, after, refusal, run, child, handed, parent-here, told}
 use Rattle.laws.specs.BindingsLaw.{Bindings}
-use Rattle.laws.proofs.Basics.{maybe-both, none≢some, eval-apart, bool-cases}
+use Rattle.laws.proofs.Basics.{maybe-both, none≢some, eval-apart}
 use Rattle.laws.proofs.Tree.{Tree, tree-push, tree-set, kept-push, kept-set}
 use Rattle.laws.proofs.Sound.{Sound, sound-none, kept-sound, declare-sound}
 

@@ -17,7 +17,8 @@ use Rattle.model.specs.Scopes.{parent-of, is-var, target, passed}
 use Rattle.model.specs.Declaring.{Told, Declared, conflict-of, complain, add-symbol-redeclaration, found, declare-symbol-on-scope, move-binding, scan}
 use Rattle.laws.specs.Conflicts.{No-value, Nearest, itself, above, Stopped-by, stopped-here, stopped-above, Reaches, reached, passes}
 use Rattle.laws.proofs.Basics.{bool-cases, option-cases, cond-is-true, cond-is-false}
-use Rattle.laws.proofs.Tree.{Tree, Passes, has-parent, target-here, target-up, passed-here, passed-up}
+use Rattle.model.proofs.Walks.{target-here, target-up, passed-here, passed-up}
+use Rattle.laws.proofs.Tree.{Tree, Passes, has-parent}
 use Rattle.laws.proofs.ComesUpon.{found-beside, none-beside, one-beside}
 
 -- a var is stopped at p, by the symbol k
@@ -38,16 +39,16 @@ module _ (rows : List ScopeRow) (tree : Tree rows) where
   nearest-var zero s h lies = absurd (not-suc-le-zero h)
   nearest-var (suc f) s h lies =
       bool-cases (is-var rows s) (Nearest rows VarScope (target rows s) s)
-      (λ v. subst (λ t. Nearest rows VarScope t s) (sym (target-here rows tree s v)) (itself v))
+      (λ v. subst (λ t. Nearest rows VarScope t s) (sym (target-here rows (tree .lower) s v)) (itself v))
       (λ v. let q : (p : ℕ) × (parent-of rows s ≡ Some p) = has-parent rows tree s lies v in
       let l : q .0 < s = tree .lower s (q .0) (q .1) in
-      subst (λ t. Nearest rows VarScope t s) (sym (target-up rows tree s (q .0) v (q .1))) (above s (q .0) v (q .1) (nearest-var f (q .0) (omega arith) (omega arith))))
+      subst (λ t. Nearest rows VarScope t s) (sym (target-up rows (tree .lower) s (q .0) v (q .1))) (above s (q .0) v (q .1) (nearest-var f (q .0) (omega arith) (omega arith))))
 
   pub stop-passes : (nm : Names) (name p k t s : ℕ) → s < length rows → target rows s ≡ t → Stops rows nm name p k s → Passes rows tree t p
   stop-passes nm name p k t s lies e (at-once v f val) = record { lies = lies; no-var = v; goal = e }
   stop-passes nm name p k t s lies e (higher _ q v lacks up r) =
       let l : q < s = tree .lower s q up in
-      stop-passes nm name p k t q (omega arith) (sym (target-up rows tree s q v up) ∙ e) r
+      stop-passes nm name p k t q (omega arith) (sym (target-up rows (tree .lower) s q v up) ∙ e) r
 
   module _ (d : Told) (mild : (f : ℕ) → meets f ByValue ≡ false → meets f (d .excludes) ≡ false) where
     -- a symbol that has no value is passed without a trace
@@ -66,14 +67,14 @@ module _ (rows : List ScopeRow) (tree : Tree rows) where
     scan-comes-to nm t (suc f) s h lies goal =
         bool-cases (is-var rows s) (Scan-comes-to nm t s (scan d t nm (passed rows s)))
         (λ v. inr (
-          subst (λ x. Reaches rows nm (d .name) t x) (sym goal ∙ target-here rows tree s v) (reached (ap (is-var rows) (sym goal ∙ target-here rows tree s v) ∙ v)),
-          ap (scan d t nm) (passed-here rows tree s v),
+          subst (λ x. Reaches rows nm (d .name) t x) (sym goal ∙ target-here rows (tree .lower) s v) (reached (ap (is-var rows) (sym goal ∙ target-here rows (tree .lower) s v) ∙ v)),
+          ap (scan d t nm) (passed-here rows (tree .lower) s v),
         ))
         (λ v. let q : (p : ℕ) × (parent-of rows s ≡ Some p) = has-parent rows tree s lies v in
         let l : q .0 < s = tree .lower s (q .0) (q .1) in
         let ps = passed rows (q .0) in
-        let further : Scan-comes-to nm t (q .0) (scan d t nm ps) = scan-comes-to nm t f (q .0) (omega arith) (omega arith) (sym (target-up rows tree s (q .0) v (q .1)) ∙ goal) in
-        let here = ap (scan d t nm) (passed-up rows tree s (q .0) v (q .1)) in
+        let further : Scan-comes-to nm t (q .0) (scan d t nm ps) = scan-comes-to nm t f (q .0) (omega arith) (omega arith) (sym (target-up rows (tree .lower) s (q .0) v (q .1)) ∙ goal) in
+        let here = ap (scan d t nm) (passed-up rows (tree .lower) s (q .0) v (q .1)) in
         option-cases (found nm s (d .name)) (Scan-comes-to nm t s (scan d t nm (passed rows s)))
         (λ e. on s (q .0) v (λ k b. absurd (none-beside nm s (d .name) e k b)) (q .1) (scan d t nm (passed rows s)) (scan d t nm ps) (here ∙ ap (λ o. maybe o (scan d t nm ps) (turn nm s t ps)) e) further)
         (λ k e. let found-it = here ∙ ap (λ o. maybe o (scan d t nm ps) (turn nm s t ps)) e in

@@ -19,7 +19,8 @@ use Rattle.model.specs.Declaring.{binding}
 use Rattle.model.specs.Resolving.{search, serving-in, serves, can-resolve, of-arguments, ends-at}
 use Rattle.laws.specs.FirstFit.{flags-now, Serves-at, Nothing-at, Goes-on, First-serving, serves-here, serves-above, None-serving, none-last, none-above, Passed-up, passed-last, passed-above, Below, itself, child-of}
 use Rattle.laws.proofs.Basics.{bool-cases, option-cases, cond-is-true, cond-is-false, none≢some, some-inj}
-use Rattle.laws.proofs.Tree.{Tree, chain-step}
+use Rattle.model.proofs.Chains.{at-chain-more}
+use Rattle.laws.proofs.Tree.{Tree}
 
 -- tests as facts
 not-both : (a b : Bool) → (a && b) ≡ false → a ≡ true → b ≡ false
@@ -232,7 +233,7 @@ module _ (m : Machine) (e : UnresolvedReference) where
     unfolding is-below chain
     below-is tree s itself = cond-is-true (eqb s s) true _ (eq-eqb s s refl)
     below-is tree s (child-of {p = p} n b) =
-        ap (any (eqb here)) (chain-step rows tree s p n)
+        at-chain-more rows (tree .lower) (any (eqb here)) s p n
         ∙ cond-both (eqb here s) true (is-below rows here p) (λ x. x ≡ true) (λ _. refl) (λ _. below-is tree p b)
 
     -- and has a number as high at least

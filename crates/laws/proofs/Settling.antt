@@ -22,8 +22,10 @@ use Rattle.model.specs.Basics.{maybe, the-name, the-symbol}
 use Rattle.model.specs.State.{Machine, Uses, no-reference, reference-row, use-flags, flags-of}
 use Rattle.model.specs.Resolving.{Fate, resolve-to, list-at-root, stay, settle, settle-all, resolved-row, resolved-flags, list-number, with-list, deferred as put-off}
 use Rattle.laws.specs.FirstFit.{_∈_, First-serving, None-serving, Passed-up, Resolved-as, Root-listed-as, Deferred-as, Settled, no-more, resolved, root-listed, outside, deferred}
+use Rattle.laws.specs.OnceLaw.{of-pending}
 use Rattle.laws.proofs.Basics.{bool-cases, option-cases, cond-is-true, cond-is-false, none≢some}
-use Rattle.laws.proofs.Single.{of-pending, one-here, times-there, Single, settle-single, settle-rows}
+use Rattle.laws.proofs.Weights.{one-here}
+use Rattle.laws.proofs.Single.{times-there, Single, settle-single, settle-rows}
 
 -- root lists: a name's list is there once it was needed, and stays
 pub list-there : (roots : Pairs Name) (n : ℕ) → with-list roots n .get (the-name n) ≡ Some (list-number roots n)
@@ -46,13 +48,13 @@ pub apart : (us : Uses) (e : UnresolvedReference) (es : List UnresolvedReference
 apart us e es o x h q =
     let a = o .once (e .reference .0) in
     let b = times-there of-pending (e .reference .0) es x h q in
-    let c = one-here (e .reference .0) (e .reference .0) refl in
+    let c = one-here (e .reference .0) in
     omega arith
 
 pub lies : (us : Uses) (e : UnresolvedReference) (es : List UnresolvedReference) → Single us (e ∷ es) → e .reference .0 < length (us .references)
 lies us e es o =
     ⊎-elim (λ l. l)
-    (λ l. let a = o .none-past (e .reference .0) l in let c = one-here (e .reference .0) (e .reference .0) refl in absurd (omega arith))
+    (λ l. let a = o .none-past (e .reference .0) l in let c = one-here (e .reference .0) in absurd (omega arith))
     (cases-lt (e .reference .0) (length (us .references)))
 
 module _ (m : Machine) (Looks : ℕ → Type 0) where

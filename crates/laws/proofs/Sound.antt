@@ -1,33 +1,28 @@
 -- What declarations keep: bindings lead to symbols of their name and scope, and where a name was hoisted from, the nearest var scope binds it.
 use mathlib.Core.Logic.{_≢_, ⊎-elim, _⊎_, inl, inr}
 use mathlib.Core.Path.{_≡_, refl, sym, ap, _∙_, subst}
-use mathlib.Core.List.{List, [], _∷_, _++_}
-use mathlib.Core.Bool.{Bool, true, false, cond, not, _&&_, _||_}
-use Prim.Native.Nat.{ℕ, zero, suc, pred, _+_, _≤_, _<_}
-use native.Mathlib.Nat.{not-suc-le-zero}
+use mathlib.Core.List.{List, [], _∷_}
+use mathlib.Core.Bool.{true, false, cond}
+use Prim.Native.Nat.{ℕ, suc, pred, _≤_, _<_}
 use native.Mathlib.Omega.{arith}
-use lib.Dec.{eqb}
-use lib.ListN.{length, getD, set, length-append, length-set, List·getD-append}
+use lib.ListN.{length, length-append, length-set, List·getD-append}
 use lib.Seq.{getD-append-seam, getD-set-same, getD-set-other}
-use Rattle.std.proofs.shelf.Tests.{not-true, and-parts, true≢false, cases-lt, cases-eq, cond-both}
+use Rattle.std.proofs.shelf.Tests.{true≢false, cond-both}
 use Rattle.std.specs.shelf.Lists.{All}
-use Rattle.std.specs.declared.option.Option.{Option}
 use Rattle.std.specs.declared.option.Option.the-variants.{Some, None}
-use Rattle.tables.specs.Flags.{meets, VarScope, ByValue, FunctionExpression}
+use Rattle.tables.specs.Flags.{meets, ByValue, FunctionExpression}
 use Rattle.tables.specs.declared.row.ScopeRow.{ScopeRow}
 use Rattle.tables.specs.declared.row.SymbolRow.{SymbolRow}
 use Rattle.std.specs.Options.{isSome}
-use Rattle.stores.specs.Pairs.{Pairs, put, drop-pair}
 use Rattle.stores.specs.Keys.{same-scope-and-name}
-use Rattle.stores.specs.declared.key.ScopeAndName.{ScopeAndName}
 use Rattle.model.specs.declared.manner.Manner.{Manner}
 use Rattle.model.specs.declared.manner.Manner.the-variants.{Here, Hoisted, MovedOut, Shadow, Conditional}
 use Rattle.model.specs.Basics.{maybe, place, the-name, the-scope, the-node, symbol-flags}
 use Rattle.model.specs.State.{Names, no-names, no-symbol, symbol-row, flags-of}
-use Rattle.model.specs.Scopes.{parent-of, is-var, passed, target, conditional-scope}
-use Rattle.model.specs.Declaring.{relocate, Told, Declared, binding, hoisted, complain, add-symbol-redeclaration, unite, found, not-expression, declare-shadow-symbol, declare-symbol-on-scope, move-binding, scan, hoist-all, with-hoisted, declare-var, declare-moved-out, declare, with-scope, with-flags}
+use Rattle.model.specs.Scopes.{is-var, passed, target, conditional-scope}
+use Rattle.model.specs.Declaring.{relocate, Told, Declared, binding, hoisted, complain, add-symbol-redeclaration, unite, found, not-expression, declare-shadow-symbol, declare-symbol-on-scope, move-binding, scan, hoist-all, with-hoisted, declare-var, declare-moved-out, declare, with-scope}
 use Rattle.laws.specs.BindingsLaw.{Is-of}
-use Rattle.laws.proofs.Basics.{set-keeps, maybe-both, maybe-cong, bool-cases, option-cases, cond-is-true, cond-is-false, none≢some, some-inj, same-true, same-refl, is-some-from, from-is-some, not-some}
+use Rattle.laws.proofs.Basics.{set-keeps, maybe-both, bool-cases, option-cases, cond-is-true, cond-is-false, none≢some, some-inj, same-true, same-refl, is-some-from, from-is-some}
 use Rattle.laws.proofs.Tree.{Tree, Passes, passed-all, target-var, Kept, target-kept}
 
 -- the name is bound in the scope

@@ -1,47 +1,35 @@
--- Scopes, and what lies on their roads.
-use mathlib.Core.Logic.{_≢_, ⊎-elim, _⊎_, inl, inr}
+-- Scopes, and what lies on their chains.
+use mathlib.Core.Logic.{_≢_, ⊎-elim, _⊎_}
 use mathlib.Core.Path.{_≡_, refl, sym, ap, _∙_, subst}
 use mathlib.Core.List.{List, [], _∷_, _++_}
-use mathlib.Core.Bool.{Bool, true, false, cond, not, _&&_, _||_}
+use mathlib.Core.Bool.{true, false, cond}
 use Prim.Native.Nat.{ℕ, zero, suc, _+_, _≤_, _<_}
 use native.Mathlib.Nat.{not-suc-le-zero}
 use native.Mathlib.Omega.{arith}
-use lib.Bits.{bitAnd, bitOr}
-use lib.ListN.{length, getD, set, length-append, length-set, List·getD-append, List·getD-eq-default}
+use lib.ListN.{length, set, length-append, length-set, List·getD-append}
 use lib.Seq.{getD-append-seam}
-use Rattle.std.proofs.shelf.Tests.{true≢false, cases-lt, cases-eq}
+use Rattle.std.proofs.shelf.Tests.{true≢false, cases-lt}
 use Rattle.std.specs.shelf.Lists.{All}
 use Rattle.std.specs.declared.option.Option.{Option}
 use Rattle.std.specs.declared.option.Option.the-variants.{Some, None}
 use Rattle.tables.specs.Flags.{meets, VarScope}
+use Rattle.tables.specs.Trees as trees
 use Rattle.tables.specs.declared.row.ScopeRow.{ScopeRow}
-use Rattle.model.specs.Basics.{maybe, scope-number, before, first}
+use Rattle.tables.proofs.TreeRows as tree-rows
+use Rattle.model.specs.Basics.{maybe, scope-number, first}
 use Rattle.model.specs.State.{no-scope}
-use Rattle.model.specs.Scopes.{parent-of, flags-in, is-var, climb, chain, passed, target}
-use Rattle.laws.proofs.Basics.{set-keeps, maybe-both, maybe-cong, bool-cases, option-cases, cond-is-true, cond-is-false, none≢some, some-inj}
+use Rattle.model.specs.Scopes.{parent-of, is-var, climb, chain, passed, target}
+use Rattle.model.proofs.Walks.{target-here, target-up, passed-here, passed-up}
+use Rattle.laws.proofs.Basics.{set-keeps, bool-cases, option-cases, none≢some, some-inj}
 
 -- every scope but the root has a parent of a lower number; the root has none, and is a var scope
 pub record Tree (rows : List ScopeRow) : Type 0 where
-  pub lower : (s p : ℕ) → parent-of rows s ≡ Some p → p < s
+  pub lower : trees.Tree rows
   pub only-root : (s : ℕ) → s < length rows → parent-of rows s ≡ None → s ≡ 0
   pub top : is-var rows 0 ≡ true
   pub there : 0 < length rows
 
 module _ (rows : List ScopeRow) (tree : Tree rows) where
-  -- fuel above the scope's number is enough
-  pub climb-fuel : (f g s : ℕ) → s < f → s < g → climb rows f s ≡ climb rows g s
-  climb-fuel zero g s h k = absurd (not-suc-le-zero h)
-  climb-fuel (suc f) zero s h k = absurd (not-suc-le-zero k)
-  climb-fuel (suc f) (suc g) s h k =
-      ap {B = List ℕ} (λ r. s ∷ r) (maybe-cong (parent-of rows s) [] (climb rows f) (climb rows g)
-      (λ p e. let l : p < s = tree .lower s p e in climb-fuel f g p (omega arith) (omega arith)))
-
-  pub chain-step : (s p : ℕ) → parent-of rows s ≡ Some p → chain rows s ≡ s ∷ chain rows p
-  unfolding chain
-  chain-step s p e =
-      let l : p < s = tree .lower s p e in
-      ap {B = List ℕ} (λ o. s ∷ maybe o [] (climb rows s)) e ∙ ap {B = List ℕ} (λ r. s ∷ r) (climb-fuel s (suc p) p l (omega arith))
-
   -- a scope that is no var scope has a parent
   pub has-parent : (s : ℕ) → s < length rows → is-var rows s ≡ false → (p : ℕ) × (parent-of rows s ≡ Some p)
   has-parent s h v =
@@ -49,22 +37,14 @@ module _ (rows : List ScopeRow) (tree : Tree rows) where
       (λ e. absurd (true≢false (sym (tree .top) ∙ ap (is-var rows) (sym (tree .only-root s h e)) ∙ v)))
       (λ p e. (p, e))
 
-  pub target-here : (s : ℕ) → is-var rows s ≡ true → target rows s ≡ s
-  unfolding chain target
-  target-here s v = cond-is-true (is-var rows s) s _ v
-
-  pub target-up : (s p : ℕ) → is-var rows s ≡ false → parent-of rows s ≡ Some p → target rows s ≡ target rows p
-  unfolding target
-  target-up s p v e = ap (first (is-var rows) 0) (chain-step s p e) ∙ cond-is-false (is-var rows s) s _ v
-
   pub target-var : (f s : ℕ) → s < f → s < length rows → is-var rows (target rows s) ≡ true
   target-var zero s h k = absurd (not-suc-le-zero h)
   target-var (suc f) s h k =
       bool-cases (is-var rows s) (is-var rows (target rows s) ≡ true)
-      (λ v. ap (is-var rows) (target-here s v) ∙ v)
+      (λ v. ap (is-var rows) (target-here rows (tree .lower) s v) ∙ v)
       (λ v. let q : (p : ℕ) × (parent-of rows s ≡ Some p) = has-parent s k v in
       let l : q .0 < s = tree .lower s (q .0) (q .1) in
-      ap (is-var rows) (target-up s (q .0) v (q .1)) ∙ target-var f (q .0) (omega arith) (omega arith))
+      ap (is-var rows) (target-up rows (tree .lower) s (q .0) v (q .1)) ∙ target-var f (q .0) (omega arith) (omega arith))
 
   -- what a var passes on the way to the target t
   pub record Passes (t s : ℕ) : Type 0 where
@@ -72,24 +52,16 @@ module _ (rows : List ScopeRow) (tree : Tree rows) where
     pub no-var : is-var rows s ≡ false
     pub goal : target rows s ≡ t
 
-  pub passed-here : (s : ℕ) → is-var rows s ≡ true → passed rows s ≡ []
-  unfolding chain passed
-  passed-here s v = cond-is-true (is-var rows s) [] _ v
-
-  pub passed-up : (s p : ℕ) → is-var rows s ≡ false → parent-of rows s ≡ Some p → passed rows s ≡ s ∷ passed rows p
-  unfolding passed
-  passed-up s p v e = ap (before (is-var rows)) (chain-step s p e) ∙ cond-is-false (is-var rows s) [] _ v
-
   pub passed-all : (f t s : ℕ) → s < f → s < length rows → target rows s ≡ t → All (Passes t) (passed rows s)
   passed-all zero t s h k e = absurd (not-suc-le-zero h)
   passed-all (suc f) t s h k e =
       bool-cases (is-var rows s) (All (Passes t) (passed rows s))
-      (λ v. subst (All (Passes t)) (sym (passed-here s v)) tt)
+      (λ v. subst (All (Passes t)) (sym (passed-here rows (tree .lower) s v)) tt)
       (λ v. let q : (p : ℕ) × (parent-of rows s ≡ Some p) = has-parent s k v in
       let l : q .0 < s = tree .lower s (q .0) (q .1) in
-      subst (All (Passes t)) (sym (passed-up s (q .0) v (q .1))) (
+      subst (All (Passes t)) (sym (passed-up rows (tree .lower) s (q .0) v (q .1))) (
         record { lies = k; no-var = v; goal = e },
-        passed-all f t (q .0) (omega arith) (omega arith) (sym (target-up s (q .0) v (q .1)) ∙ e),
+        passed-all f t (q .0) (omega arith) (omega arith) (sym (target-up rows (tree .lower) s (q .0) v (q .1)) ∙ e),
       ))
 
 -- scopes that have come to be, or changed, and left the others as they were
@@ -129,13 +101,7 @@ module _ (rows : List ScopeRow) (x : ScopeRow) where
   pub tree-push : Tree rows → (c : ℕ) → c < length rows → scope-number (x .parent) ≡ Some c → Tree (rows ++ x ∷ [])
   tree-push tree c h e =
       record {
-        lower = λ s p q. ⊎-elim (λ l. tree .lower s p (sym (kept-push .parents s l) ∙ q))
-            (λ (l : length rows ≤ s). ⊎-elim
-            (λ (z : s ≡ length rows). let pc : p ≡ c = some-inj p c (sym q ∙ ap (λ k. parent-of (rows ++ x ∷ []) k) z ∙ ap (λ (r : ScopeRow). scope-number (r .parent)) (getD-append-seam rows x [] no-scope) ∙ e) in omega arith)
-            (λ (z : s ≢ length rows). absurd (none≢some (parent-of (rows ++ x ∷ []) s) p
-            (let m : length (rows ++ x ∷ []) ≤ s = simp length-append (omega arith) in ap (λ (r : ScopeRow). scope-number (r .parent)) (List·getD-eq-default (rows ++ x ∷ []) no-scope m)) q))
-            (cases-eq s (length rows)))
-            (cases-lt s (length rows));
+        lower = tree-rows.tree-push rows x (tree .lower) (λ p q. subst (λ n. n < length rows) (some-inj c p (sym e ∙ q)) h);
         only-root = λ s l q. ⊎-elim (λ k. tree .only-root s k (sym (kept-push .parents s k) ∙ q))
             (λ (k : length rows ≤ s). let z : s ≡ length rows = omega (arith, simp length-append at l) in
             absurd (none≢some (scope-number (x .parent)) c (sym (ap (λ n. parent-of (rows ++ x ∷ []) n) z ∙ ap (λ (r : ScopeRow). scope-number (r .parent)) (getD-append-seam rows x [] no-scope)) ∙ q) e))
@@ -157,7 +123,7 @@ module _ (rows : List ScopeRow) (i : ℕ) (x : ScopeRow) (same-parent : scope-nu
   pub tree-set : Tree rows → Tree (set rows i x)
   tree-set tree =
       record {
-        lower = λ s p q. tree .lower s p (sym (set-keeps (λ (r : ScopeRow). scope-number (r .parent)) no-scope rows i x s same-parent) ∙ q);
+        lower = tree-rows.tree-set rows i x (tree .lower) same-parent;
         only-root = λ s l q. tree .only-root s (simp length-set at l) (sym (set-keeps (λ (r : ScopeRow). scope-number (r .parent)) no-scope rows i x s same-parent) ∙ q);
         top = set-keeps (λ (r : ScopeRow). meets (r .flags .0) VarScope) no-scope rows i x 0 same-var ∙ tree .top;
         there = simp length-set (tree .there);

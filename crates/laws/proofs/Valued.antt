@@ -1,14 +1,14 @@
 -- A name that only values were declared under: each symbol of that name is one that a reference to a value can resolve to.
 use mathlib.Core.Path.{_≡_, refl, sym, ap, _∙_, subst}
 use mathlib.Core.List.{List, [], _∷_, _++_}
-use mathlib.Core.Bool.{true, cond, not}
+use mathlib.Core.Bool.{true, cond}
 use mathlib.Core.Logic.{⊎-elim}
-use Prim.Native.Nat.{ℕ, zero, suc, _/_, _≤_, _<_}
+use Prim.Native.Nat.{ℕ, zero, suc, _≤_, _<_}
 use native.Mathlib.Omega.{arith}
-use lib.Bits.{bitAnd, bitOr, and-step, or-step, and-zero-r}
+use lib.Bits.{bitOr}
 use lib.ListN.{length, getD, set, take, drop, length-append, length-set, List·getD-append}
 use lib.Seq.{getD-append-seam, getD-set-same, getD-set-other}
-use Rattle.std.proofs.shelf.Tests.{cond-both, true≢false, eq-eqb, ne-eqb, cases-eq, cases-lt}
+use Rattle.std.proofs.shelf.Tests.{cond-both, cases-eq, cases-lt}
 use Rattle.std.specs.shelf.Lists.{All}
 use Rattle.std.specs.Options.{isSome}
 use Rattle.tables.specs.Flags.{meets, ByValue, Ambient, AsyncOrGenerator}
@@ -23,23 +23,7 @@ use Rattle.model.specs.State.{Names, no-symbol, symbol-row, flags-of}
 use Rattle.model.specs.Scopes.{passed, target, conditional-scope}
 use Rattle.model.specs.Declaring.{Told, Declared, binding, relocate, complain, add-symbol-redeclaration, unite, found, declare-shadow-symbol, declare-symbol-on-scope, move-binding, scan, hoist-all, with-hoisted, with-scope, declare-var, declare-moved-out, declare}
 use Rattle.laws.proofs.Basics.{maybe-both}
-
--- more flags meet at least what fewer did
-and-grows : (n a b m : ℕ) → m ≤ n → bitAnd a m ≤ bitAnd (bitOr a b) m
-and-grows zero a b m h = let z : m ≡ 0 = omega arith in let p : bitAnd a m ≡ 0 = ap (bitAnd a) z ∙ and-zero-r a in omega arith
-and-grows (suc n) a b m h =
-    let i = and-grows n (a / 2) (b / 2) (m / 2) (omega arith) in
-    let o = or-step a b in
-    let half : bitOr a b / 2 ≡ bitOr (a / 2) (b / 2) = omega arith in
-    let p = and-step a m in
-    let q = and-step (bitOr a b) m in
-    let r = ap (λ x. bitAnd x (m / 2)) half in
-    omega arith
-
-pub meets-more : (a b set : ℕ) → meets a set ≡ true → meets (bitOr a b) set ≡ true
-meets-more a b set h =
-    let l = and-grows set a b set (omega arith) in
-    ap not (ne-eqb (bitAnd (bitOr a b) set) 0 (λ z. true≢false (sym (sym (ap not (eq-eqb (bitAnd a set) 0 (omega arith))) ∙ h))))
+use Rattle.laws.proofs.FlagSets.{meets-more}
 
 module _ (name : ℕ) where
   pub record Valued (nm : Names) : Type 0 where

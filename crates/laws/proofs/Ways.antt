@@ -16,7 +16,8 @@ use Rattle.model.specs.Scopes.{parent-of, is-var, target, passed}
 use Rattle.laws.specs.Conflicts.{Nearest, itself, above}
 use Rattle.laws.specs.EarlyErrors.{On-way, start, onward, One-of, Two-of}
 use Rattle.laws.proofs.Basics.{bool-cases}
-use Rattle.laws.proofs.Tree.{Tree, Kept, has-parent, target-here, target-up, passed-here, passed-up}
+use Rattle.model.proofs.Walks.{target-here, target-up, passed-here, passed-up}
+use Rattle.laws.proofs.Tree.{Tree, Kept, has-parent}
 
 module _ {X : Type 0} (P : X → Type 0) where
   pub one-keep : (xs ys : List X) → One-of P xs → One-of P (xs ++ ys)
@@ -72,25 +73,25 @@ module _ (rows : List ScopeRow) where
     way-passed zero q s h l w = absurd (not-suc-le-zero h)
     way-passed (suc f) q s h l start =
         bool-cases (is-var rows s) (One-of (λ p. p ≡ s) (passed rows s) ⊎ (s ≡ target rows s))
-        (λ v. inr (sym (target-here rows tree s v)))
-        (λ v. let p = has-parent rows tree s l v in inl (subst (One-of (λ p. p ≡ s)) (sym (passed-up rows tree s (p .0) v (p .1))) (inl refl)))
+        (λ v. inr (sym (target-here rows (tree .lower) s v)))
+        (λ v. let p = has-parent rows tree s l v in inl (subst (One-of (λ p. p ≡ s)) (sym (passed-up rows (tree .lower) s (p .0) v (p .1))) (inl refl)))
     way-passed (suc f) q s h l (onward _ p v e r) =
         let k : p < s = tree .lower s p e in
         ⊎-elim
-        (λ o. inl (subst (One-of (λ x. x ≡ q)) (sym (passed-up rows tree s p v e)) (inr o)))
-        (λ o. inr (o ∙ sym (target-up rows tree s p v e)))
+        (λ o. inl (subst (One-of (λ x. x ≡ q)) (sym (passed-up rows (tree .lower) s p v e)) (inr o)))
+        (λ o. inr (o ∙ sym (target-up rows (tree .lower) s p v e)))
         (way-passed f q p (omega arith) (omega arith) r)
 
     pub passed-way : (f q s : ℕ) → s < f → s < length rows → One-of (λ p. p ≡ q) (passed rows s) → On-way rows q s
     passed-way zero q s h l o = absurd (not-suc-le-zero h)
     passed-way (suc f) q s h l o =
         bool-cases (is-var rows s) (On-way rows q s)
-        (λ v. absurd (subst (One-of (λ p. p ≡ q)) (passed-here rows tree s v) o))
+        (λ v. absurd (subst (One-of (λ p. p ≡ q)) (passed-here rows (tree .lower) s v) o))
         (λ v. let p : (p : ℕ) × (parent-of rows s ≡ Some p) = has-parent rows tree s l v in
         let k : p .0 < s = tree .lower s (p .0) (p .1) in
         ⊎-elim (λ e. subst (λ x. On-way rows x s) e start)
         (λ r. onward s (p .0) v (p .1) (passed-way f q (p .0) (omega arith) (omega arith) r))
-        (subst (One-of (λ x. x ≡ q)) (passed-up rows tree s (p .0) v (p .1)) o))
+        (subst (One-of (λ x. x ≡ q)) (passed-up rows (tree .lower) s (p .0) v (p .1)) o))
 
 -- scopes that come to be leave the ways
 pub way-kept : (rows rows′ : List ScopeRow) → Tree rows → Kept rows rows′ → (q s : ℕ) → s < length rows → On-way rows′ q s → On-way rows q s

@@ -3,7 +3,7 @@ use Prim.Native.Nat.{_<_}
 use native.Mathlib.Omega.{arith}
 use Rattle.std.specs.declared.result.Result.the-variants.{Ok}
 use Rattle.stores.specs.Pairs.{no-pairs, put, drop-pair}
-use Rattle.stores.proofs.Rooms.{put-with-room}
+use Rattle.stores.proofs.Rooms.{put-room}
 use Rattle.store_demo.specs.Exercise.{exercised}
 use Rattle.store_demo.proofs.exercise.exercise.Needs as need
 
@@ -20,10 +20,10 @@ returns g c =
     let least-one = g .S·PairSet .bounds one .enough in
     let none = ap (λ p. p .size) (c .clear .ensures .after) in
     let room : pairs cleared .size < capacity cleared = omega arith in
-    let first : pairs one ≡ put same no-pairs kept 1 = c .insert .ensures .after ∙ put-with-room same (pairs cleared) (capacity cleared) kept 1 room ∙ ap (λ p. put same p kept 1) (c .clear .ensures .after) in
+    let first : pairs one ≡ put same no-pairs kept 1 = c .insert .ensures .after ∙ put-room same (pairs cleared) kept 1 (capacity cleared) room ∙ ap (λ p. put same p kept 1) (c .clear .ensures .after) in
     let single = ap (λ p. p .size) first in
     let room-one : pairs one .size < capacity one = omega arith in
-    let second = c .insert-2 .ensures .after ∙ put-with-room same (pairs one) (capacity one) removed 2 room-one ∙ ap (λ p. put same p removed 2) first in
+    let second = c .insert-2 .ensures .after ∙ put-room same (pairs one) removed 2 (capacity one) room-one ∙ ap (λ p. put same p removed 2) first in
     let last : pairs (c .remove .last .self) ≡ exercised same kept removed = c .remove .ensures .after ∙ ap (λ p. drop-pair same p removed) second in
     let of-kept = c .get .ensures ∙ ap (λ p. p .get kept) last in
     let of-removed = c .get-2 .ensures ∙ ap (λ p. p .get removed) last in
