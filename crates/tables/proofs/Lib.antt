@@ -1,2 +1,3 @@
 pub mod Nths
+pub mod Owners
 pub mod TreeRows

@@ -7,3 +7,4 @@ pub mod Limits
 pub mod RowList
 pub mod Trees
 pub mod Contents
+pub mod Picked

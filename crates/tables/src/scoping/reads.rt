@@ -50,7 +50,7 @@ const NO_REFERENCE: ReferenceRow = ReferenceRow {
 };
 
 /// A row that was asked for, or the refusal.
-fn present<T>(row: Option<T>) -> Result<T, Refusal>
+pub(crate) fn present<T>(row: Option<T>) -> Result<T, Refusal>
     ensures { λ r. ⌜ r ≡ row-answer row ⌝ }
 {
     match row {
