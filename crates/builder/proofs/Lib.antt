@@ -1,3 +1,8 @@
+pub mod Seeks
+pub mod Settlings
+pub mod Resolvings
+pub mod RowAnswers
+pub mod KeptUses
 pub mod Walks
 pub mod Pushes
 pub mod Rooms

@@ -1,4 +1,6 @@
 pub mod View
+pub mod Seeking
+pub mod Fates
 pub mod Telling
 pub mod Scan
 pub mod KindNumbers
