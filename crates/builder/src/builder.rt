@@ -13,6 +13,7 @@ use tables::scoping::Scoping;
 
 mod calls;
 mod made;
+mod reads;
 
 pub use calls::SemanticBuilderBinding;
 

@@ -8,3 +8,4 @@ pub mod RowList
 pub mod Trees
 pub mod Contents
 pub mod Picked
+pub mod Reading
