@@ -9,3 +9,6 @@ pub mod Rooms
 pub mod Scans
 pub mod MovedOut
 pub mod KindFacts
+pub mod Kept
+pub mod Refusing
+pub mod Binding

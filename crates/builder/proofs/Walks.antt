@@ -2,13 +2,16 @@
 use mathlib.Core.Path.{_≡_, refl, sym, ap, _∙_}
 use mathlib.Core.Bool.{Bool, true, false, cond}
 use mathlib.Core.List.{List, [], _∷_}
-use Prim.Native.Nat.{ℕ, suc}
+use Prim.Native.Nat.{ℕ, zero, suc, _≤_}
+use native.Mathlib.Omega.{arith}
+use lib.ListN.{length}
 use Rattle.std.specs.declared.option.Option.{Option}
 use Rattle.std.specs.declared.option.Option.the-variants.{Some, None}
+use Rattle.std.proofs.shelf.Tests.{cond-both}
 use Rattle.tables.specs.Trees.{Tree}
 use Rattle.tables.specs.declared.row.ScopeRow.{ScopeRow}
 use Rattle.model.specs.Basics.{maybe, first, before}
-use Rattle.model.specs.Scopes.{parent-of, is-var, chain, target, passed}
+use Rattle.model.specs.Scopes.{parent-of, is-var, climb, chain, target, passed}
 use Rattle.model.proofs.Chains.{at-chain, at-chain-more, at-chain-top}
 
 cond-true : {X : Type 0} (b : Bool) (x y : X) → b ≡ true → cond b x y ≡ x
@@ -57,3 +60,20 @@ module _ (rows : List ScopeRow) (tree : Tree rows) where
   pub passed-cons : (s : ℕ) → is-var rows s ≡ false → (ps : List ℕ) × (passed rows s ≡ s ∷ ps)
   unfolding passed
   passed-cons s v = (before (is-var rows) (maybe (parent-of rows s) [] (chain rows)), at-chain rows tree (before (is-var rows)) s ∙ cond-false (is-var rows s) [] _ v)
+
+before-short : (test : ℕ → Bool) (xs : List ℕ) → length (before test xs) ≤ length xs
+before-short test [] = omega arith
+before-short test (x ∷ xs) = let h = before-short test xs in cond-both (test x) [] (x ∷ before test xs) (λ ys. length ys ≤ length (x ∷ xs)) (λ _. omega arith) (λ _. omega arith)
+
+climb-short : (rows : List ScopeRow) (f s : ℕ) → length (climb rows f s) ≤ f
+climb-short rows zero s = omega arith
+climb-short rows (suc f) s = let h = maybe-short (parent-of rows s) (climb rows f) f (λ p. climb-short rows f p) in omega arith
+  where
+    maybe-short : (o : Option ℕ) (g : ℕ → List ℕ) (n : ℕ) → ((p : ℕ) → length (g p) ≤ n) → length (maybe o [] g) ≤ n
+    maybe-short None g n h = omega arith
+    maybe-short (Some p) g n h = h p
+
+-- a scope passes no more scopes than its number has room for
+pub passed-short : (rows : List ScopeRow) (s : ℕ) → length (passed rows s) ≤ suc s
+unfolding passed chain
+passed-short rows s = let a = before-short (is-var rows) (climb rows (suc s) s) in let b = climb-short rows (suc s) s in omega arith

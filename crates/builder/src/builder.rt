@@ -14,6 +14,7 @@ use tables::scoping::Scoping;
 mod calls;
 mod made;
 mod reads;
+mod parts;
 
 pub use calls::SemanticBuilderBinding;
 

@@ -72,7 +72,10 @@ pub(crate) fn conditional_or_self(scoping: &Scoping, from: ScopeId) -> ScopeId
 {
     let mut at = from;
     'climb: loop {
-        if scoping.scope_or_empty(at).flags.intersects(ScopeFlags::TS_CONDITIONAL) {
+        if scoping
+            .scope_or_empty(at)
+            .flags
+            .intersects(ScopeFlags::TS_CONDITIONAL) {
             return at;
         }
         let Some(above) = parent(scoping, at) else {

@@ -24,7 +24,11 @@ use tables::row::SymbolRow;
 use tables::scoping::Scoping;
 
 /// The number of the symbol that a key is bound to, else that it is hoisted to.
-fn held_number<B: Store<ScopeAndName>, H: Store<ScopeAndName>>(bindings: &B, hoisting: &H, key: ScopeAndName) -> Option<u32>
+fn held_number<B: Store<ScopeAndName>, H: Store<ScopeAndName>>(
+    bindings: &B,
+    hoisting: &H,
+    key: ScopeAndName,
+) -> Option<u32>
     ensures { λ r. ⌜ r ≡ maybe (B·PairSet .pairs (now (bindings .entry)) .get key) (H·PairSet .pairs (now (hoisting .entry)) .get key) Some ⌝ }
 {
     match bindings.get(key) {
@@ -34,11 +38,24 @@ fn held_number<B: Store<ScopeAndName>, H: Store<ScopeAndName>>(bindings: &B, hoi
 }
 
 /// The symbol beside which a name is declared: its binding in the scope, else its hoisted variable, and never a function expression.
-pub(crate) fn found_symbol<B: Store<ScopeAndName>, H: Store<ScopeAndName>>(scoping: &Scoping, bindings: &B, hoisting: &H, scope: ScopeId, name: Name) -> Option<SymbolId>
+pub(crate) fn found_symbol<B: Store<ScopeAndName>, H: Store<ScopeAndName>>(
+    scoping: &Scoping,
+    bindings: &B,
+    hoisting: &H,
+    scope: ScopeId,
+    name: Name,
+) -> Option<SymbolId>
     ensures { λ r. ⌜ symbol-number r ≡ found (names-of (contents (now (scoping .entry))) (B·PairSet .pairs (now (bindings .entry))) (H·PairSet .pairs (now (hoisting .entry)))) (scope .0) (name .0) ⌝ }
 {
     let symbol = SymbolId(held_number(bindings, hoisting, ScopeAndName { scope, name })?);
-    if scoping.symbol_or_empty(symbol).flags.intersects(SymbolFlags::FUNCTION_EXPRESSION) { None } else { Some(symbol) }
+    if scoping
+        .symbol_or_empty(symbol)
+        .flags
+        .intersects(SymbolFlags::FUNCTION_EXPRESSION) {
+        None
+    } else {
+        Some(symbol)
+    }
 }
 
 /// Writes a conflict if the symbol has a flag that the declaration excludes.
@@ -54,7 +71,13 @@ fn complain_of(scoping: &mut Scoping, symbol: SymbolId, d: Told)
 }
 
 /// Looks up the symbol beside which the name is declared, and writes a conflict if the two may not stand side by side.
-pub(crate) fn check_redeclaration<B: Store<ScopeAndName>, H: Store<ScopeAndName>>(scoping: &mut Scoping, bindings: &B, hoisting: &H, scope: ScopeId, d: Told) -> Option<SymbolId>
+pub(crate) fn check_redeclaration<B: Store<ScopeAndName>, H: Store<ScopeAndName>>(
+    scoping: &mut Scoping,
+    bindings: &B,
+    hoisting: &H,
+    scope: ScopeId,
+    d: Told,
+) -> Option<SymbolId>
     requires { ⌜ length (contents (now scoping) .conflicts) < most-conflicts ⌝ }
     ensures answer { λ r. ⌜ symbol-number r ≡ found (names-of (contents (now (scoping .entry))) (B·PairSet .pairs (now (bindings .entry))) (H·PairSet .pairs (now (hoisting .entry)))) (scope .0) (d .name .0) ⌝ }
     ensures names { λ r. ⌜ ((b h : Pairs ScopeAndName) → names-of (contents (now (scoping .exit))) b h ≡ maybe (symbol-number r) (names-of (contents (now (scoping .entry))) b h) (complain (plain d) (names-of (contents (now (scoping .entry))) b h))) ⌝ }
@@ -88,11 +111,26 @@ pub(crate) fn union_symbol_flags(scoping: &mut Scoping, symbol: SymbolId, d: Tol
 {
     let row = scoping.symbol_or_empty(symbol);
     let flags = row.flags.union(d.includes);
-    let _ = scoping.set_symbol(symbol, SymbolRow { name: row.name, start: row.start, end: row.end, flags, scope: row.scope, node: row.node });
+    let _ = scoping.set_symbol(
+        symbol,
+        SymbolRow {
+            name: row.name,
+            start: row.start,
+            end: row.end,
+            flags,
+            scope: row.scope,
+            node: row.node,
+        },
+    );
 }
 
 /// Makes a new symbol and binds it in the scope, over any other.
-pub(crate) fn declare_shadow_symbol<B: Store<ScopeAndName>>(scoping: &mut Scoping, bindings: &mut B, scope: ScopeId, d: Told) -> SymbolId
+pub(crate) fn declare_shadow_symbol<B: Store<ScopeAndName>>(
+    scoping: &mut Scoping,
+    bindings: &mut B,
+    scope: ScopeId,
+    d: Told,
+) -> SymbolId
     requires symbols { ⌜ length (contents (now scoping) .symbols) < most-symbols ⌝ }
     requires room { ⌜ B·PairSet .pairs (now bindings) .size < least-capacity ⌝ }
     ensures names { λ r. ⌜ ((h : Pairs ScopeAndName) → declared (contents (now (scoping .exit))) (B·PairSet .pairs (now (bindings .exit))) h r ≡ declare-shadow-symbol (plain d) (names-of (contents (now (scoping .entry))) (B·PairSet .pairs (now (bindings .entry))) h) (scope .0)) ⌝ }
@@ -101,12 +139,24 @@ pub(crate) fn declare_shadow_symbol<B: Store<ScopeAndName>>(scoping: &mut Scopin
     let Ok(symbol) = scoping.add_symbol(d.new_symbol(scope)) else {
         unreachable()
     };
-    let _ = bindings.insert(ScopeAndName { scope, name: d.name }, symbol.0);
+    let _ = bindings.insert(
+        ScopeAndName {
+            scope,
+            name: d.name,
+        },
+        symbol.0,
+    );
     symbol
 }
 
 /// Declares the symbol that is found once more, or makes a new one.
-pub(crate) fn declare_symbol_on_scope<B: Store<ScopeAndName>, H: Store<ScopeAndName>>(scoping: &mut Scoping, bindings: &mut B, hoisting: &H, scope: ScopeId, d: Told) -> SymbolId
+pub(crate) fn declare_symbol_on_scope<B: Store<ScopeAndName>, H: Store<ScopeAndName>>(
+    scoping: &mut Scoping,
+    bindings: &mut B,
+    hoisting: &H,
+    scope: ScopeId,
+    d: Told,
+) -> SymbolId
     requires symbols { ⌜ length (contents (now scoping) .symbols) < most-symbols ⌝ }
     requires redeclarations { ⌜ length (contents (now scoping) .redeclarations) + 2 ≤ most-redeclarations ⌝ }
     requires conflicts { ⌜ length (contents (now scoping) .conflicts) < most-conflicts ⌝ }
@@ -125,7 +175,14 @@ pub(crate) fn declare_symbol_on_scope<B: Store<ScopeAndName>, H: Store<ScopeAndN
 }
 
 /// Moves the binding of a name from one scope to another, unless that has the name; the symbol's scope follows.
-pub(crate) fn move_binding<B: Store<ScopeAndName>>(scoping: &mut Scoping, bindings: &mut B, from: ScopeId, to: ScopeId, name: Name, symbol: SymbolId)
+pub(crate) fn move_binding<B: Store<ScopeAndName>>(
+    scoping: &mut Scoping,
+    bindings: &mut B,
+    from: ScopeId,
+    to: ScopeId,
+    name: Name,
+    symbol: SymbolId,
+)
     requires room { ⌜ drop-pair same-scope-and-name (B·PairSet .pairs (now bindings)) (place (from .0) (name .0)) .size < least-capacity ⌝ }
     ensures names { λ _. ⌜ ((h : Pairs ScopeAndName) → names-of (contents (now (scoping .exit))) (B·PairSet .pairs (now (bindings .exit))) h ≡ move-binding (names-of (contents (now (scoping .entry))) (B·PairSet .pairs (now (bindings .entry))) h) (from .0) (to .0) (name .0) (symbol .0)) ⌝ }
     ensures rest { λ _. ⌜ beside-names (contents (now (scoping .exit))) ≡ beside-names (contents (now (scoping .entry))) ⌝ }
@@ -137,5 +194,15 @@ pub(crate) fn move_binding<B: Store<ScopeAndName>>(scoping: &mut Scoping, bindin
     bindings.remove(ScopeAndName { scope: from, name });
     let _ = bindings.insert(target, symbol.0);
     let row = scoping.symbol_or_empty(symbol);
-    let _ = scoping.set_symbol(symbol, SymbolRow { name: row.name, start: row.start, end: row.end, flags: row.flags, scope: to, node: row.node });
+    let _ = scoping.set_symbol(
+        symbol,
+        SymbolRow {
+            name: row.name,
+            start: row.start,
+            end: row.end,
+            flags: row.flags,
+            scope: to,
+            node: row.node,
+        },
+    );
 }

@@ -30,7 +30,14 @@ use tables::id::ScopeId;
 use tables::id::SymbolId;
 use tables::scoping::Scoping;
 
-pub(crate) fn declare_by_manner<B: Store<ScopeAndName>, H: Store<ScopeAndName>>(scoping: &mut Scoping, bindings: &mut B, hoisting: &mut H, current: ScopeId, typescript: bool, declaration: Checked) -> SymbolId
+pub(crate) fn declare_by_manner<B: Store<ScopeAndName>, H: Store<ScopeAndName>>(
+    scoping: &mut Scoping,
+    bindings: &mut B,
+    hoisting: &mut H,
+    current: ScopeId,
+    typescript: bool,
+    declaration: Checked,
+) -> SymbolId
     requires symbols { ⌜ length (contents (now scoping) .symbols) < most-symbols ⌝ }
     requires redeclarations { ⌜ length (contents (now scoping) .redeclarations) + 2 ≤ most-redeclarations ⌝ }
     requires conflicts { ⌜ length (contents (now scoping) .conflicts) + reach-of (declaration) (contents (now scoping) .scopes) (current .0) ≤ most-conflicts ⌝ }

@@ -28,7 +28,14 @@ use tables::id::SymbolId;
 use tables::scoping::Scoping;
 
 /// Looks at one scope on the way of a var: a value symbol is declared once more, and its binding moves to the target if that lacks the name.
-fn scan_scope<B: Store<ScopeAndName>, H: Store<ScopeAndName>>(scoping: &mut Scoping, bindings: &mut B, hoisting: &H, at: ScopeId, to: ScopeId, d: Told) -> Option<SymbolId>
+fn scan_scope<B: Store<ScopeAndName>, H: Store<ScopeAndName>>(
+    scoping: &mut Scoping,
+    bindings: &mut B,
+    hoisting: &H,
+    at: ScopeId,
+    to: ScopeId,
+    d: Told,
+) -> Option<SymbolId>
     requires redeclarations { ⌜ length (contents (now scoping) .redeclarations) + 2 ≤ most-redeclarations ⌝ }
     requires conflicts { ⌜ length (contents (now scoping) .conflicts) < most-conflicts ⌝ }
     requires room { ⌜ B·PairSet .pairs (now bindings) .size < least-capacity ⌝ }
@@ -36,7 +43,10 @@ fn scan_scope<B: Store<ScopeAndName>, H: Store<ScopeAndName>>(scoping: &mut Scop
     ensures rest { λ _. ⌜ beside-names (contents (now (scoping .exit))) ≡ beside-names (contents (now (scoping .entry))) ⌝ }
 {
     let symbol = check_redeclaration(scoping, bindings, hoisting, at, d)?;
-    if !scoping.symbol_or_empty(symbol).flags.intersects(SymbolFlags::BY_VALUE) {
+    if !scoping
+        .symbol_or_empty(symbol)
+        .flags
+        .intersects(SymbolFlags::BY_VALUE) {
         return None;
     }
     add_symbol_redeclaration(scoping, symbol, d);
@@ -45,7 +55,13 @@ fn scan_scope<B: Store<ScopeAndName>, H: Store<ScopeAndName>>(scoping: &mut Scop
 }
 
 /// Gives each scope on the way of a var a hoisted variable.
-fn hoist_passed<H: Store<ScopeAndName>>(scoping: &Scoping, hoisting: &mut H, from: ScopeId, name: Name, symbol: SymbolId)
+fn hoist_passed<H: Store<ScopeAndName>>(
+    scoping: &Scoping,
+    hoisting: &mut H,
+    from: ScopeId,
+    name: Name,
+    symbol: SymbolId,
+)
     requires { ⌜ H·PairSet .pairs (now hoisting) .size + length (passed (contents (now scoping) .scopes) (from .0)) ≤ least-capacity ⌝ }
     ensures { λ _. ⌜ H·PairSet .pairs (now (hoisting .exit)) ≡ hoist-pairs (H·PairSet .pairs (now (hoisting .entry))) (passed (contents (now (scoping .entry)) .scopes) (from .0)) (name .0) (symbol .0) ⌝ }
 {
@@ -63,7 +79,14 @@ fn hoist_passed<H: Store<ScopeAndName>>(scoping: &Scoping, hoisting: &mut H, fro
 }
 
 /// Looks for a value symbol on the way of a var, and else declares the name on the target.
-fn scan_passed<B: Store<ScopeAndName>, H: Store<ScopeAndName>>(scoping: &mut Scoping, bindings: &mut B, hoisting: &H, from: ScopeId, to: ScopeId, d: Told) -> SymbolId
+fn scan_passed<B: Store<ScopeAndName>, H: Store<ScopeAndName>>(
+    scoping: &mut Scoping,
+    bindings: &mut B,
+    hoisting: &H,
+    from: ScopeId,
+    to: ScopeId,
+    d: Told,
+) -> SymbolId
     requires symbols { ⌜ length (contents (now scoping) .symbols) < most-symbols ⌝ }
     requires redeclarations { ⌜ length (contents (now scoping) .redeclarations) + 2 ≤ most-redeclarations ⌝ }
     requires conflicts { ⌜ length (contents (now scoping) .conflicts) + length (passed (contents (now scoping) .scopes) (from .0)) < most-conflicts ⌝ }
@@ -88,7 +111,13 @@ fn scan_passed<B: Store<ScopeAndName>, H: Store<ScopeAndName>>(scoping: &mut Sco
 }
 
 /// Declares a `var`: on the way to its nearest var scope or there, with a hoisted variable for each scope on the way.
-pub(crate) fn declare_var<B: Store<ScopeAndName>, H: Store<ScopeAndName>>(scoping: &mut Scoping, bindings: &mut B, hoisting: &mut H, current: ScopeId, d: Told) -> SymbolId
+pub(crate) fn declare_var<B: Store<ScopeAndName>, H: Store<ScopeAndName>>(
+    scoping: &mut Scoping,
+    bindings: &mut B,
+    hoisting: &mut H,
+    current: ScopeId,
+    d: Told,
+) -> SymbolId
     requires symbols { ⌜ length (contents (now scoping) .symbols) < most-symbols ⌝ }
     requires redeclarations { ⌜ length (contents (now scoping) .redeclarations) + 2 ≤ most-redeclarations ⌝ }
     requires conflicts { ⌜ length (contents (now scoping) .conflicts) + length (passed (contents (now scoping) .scopes) (current .0)) < most-conflicts ⌝ }
@@ -104,7 +133,13 @@ pub(crate) fn declare_var<B: Store<ScopeAndName>, H: Store<ScopeAndName>>(scopin
 }
 
 /// Declares a function in a block, and moves it to the nearest var scope unless that has the name.
-pub(crate) fn declare_moved_out<B: Store<ScopeAndName>, H: Store<ScopeAndName>>(scoping: &mut Scoping, bindings: &mut B, hoisting: &mut H, current: ScopeId, d: Told) -> SymbolId
+pub(crate) fn declare_moved_out<B: Store<ScopeAndName>, H: Store<ScopeAndName>>(
+    scoping: &mut Scoping,
+    bindings: &mut B,
+    hoisting: &mut H,
+    current: ScopeId,
+    d: Told,
+) -> SymbolId
     requires symbols { ⌜ length (contents (now scoping) .symbols) < most-symbols ⌝ }
     requires redeclarations { ⌜ length (contents (now scoping) .redeclarations) + 2 ≤ most-redeclarations ⌝ }
     requires conflicts { ⌜ length (contents (now scoping) .conflicts) < most-conflicts ⌝ }
@@ -115,10 +150,21 @@ pub(crate) fn declare_moved_out<B: Store<ScopeAndName>, H: Store<ScopeAndName>>(
 {
     let to = var_scope(scoping, current);
     let symbol = declare_symbol_on_scope(scoping, bindings, hoisting, current, d);
-    if bindings.get(ScopeAndName { scope: to, name: d.name }).is_some() {
+    if bindings
+        .get(ScopeAndName {
+            scope: to,
+            name: d.name,
+        })
+        .is_some() {
         return symbol;
     }
     move_binding(scoping, bindings, current, to, d.name, symbol);
-    let _ = hoisting.insert(ScopeAndName { scope: current, name: d.name }, symbol.0);
+    let _ = hoisting.insert(
+        ScopeAndName {
+            scope: current,
+            name: d.name,
+        },
+        symbol.0,
+    );
     symbol
 }

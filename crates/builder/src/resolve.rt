@@ -1,6 +1,7 @@
 //! Resolving the pending references, at the end of a scope and at the end of the program.
 ghost use mathlib.Core.Path.{_≡_};
 ghost use Prim.Native.Nat.{_+_, _-_, _≤_};
+ghost use lib.Dec.{leb};
 ghost use lib.ListN.{length, drop};
 ghost use Rattle.tables.specs.Contents.{contents};
 ghost use Rattle.tables.specs.Limits.{most-references};
@@ -18,6 +19,7 @@ use crate::settle::fate_of;
 use crate::settle::settle_entry;
 use model::call::Counts;
 use stores::key::ScopeAndName;
+use stores::store::LEAST_CAPACITY;
 use stores::store::Store;
 use tables::id::Name;
 use tables::id::ScopeId;
@@ -108,4 +110,11 @@ pub(crate) fn resolve_all<B: Store<ScopeAndName>, R: Store<Name>>(
     ensures rest { λ _. ⌜ beside-uses (contents (now (scoping .exit))) ≡ beside-uses (contents (now (scoping .entry))) ⌝ }
 {
     settle_pending(scoping, bindings, roots, Stage::EndOfProgram, 0)
+}
+
+/// Whether the store of root lists has places for so many lists more.
+pub(crate) fn has_places<R: Store<Name>>(roots: &R, more: usize) -> bool
+    ensures { λ r. ⌜ r ≡ leb (R·PairSet .pairs (now (roots .entry)) .size + more) least-capacity ⌝ }
+{
+    more <= LEAST_CAPACITY && roots.count() <= LEAST_CAPACITY - more
 }

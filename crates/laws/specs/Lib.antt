@@ -1,1 +1,13 @@
+pub mod HasFlag
+pub mod KindNames
+pub mod Scripts
+pub mod Words
+pub mod Refused
 pub mod BindingsLaw
+pub mod OnceLaw
+pub mod NeverFull
+pub mod LongerRuns
+pub mod FirstFit
+pub mod GetIdentifierReference
+pub mod Conflicts
+pub mod EarlyErrors

@@ -1,3 +1,4 @@
 pub mod Bools
 pub mod CountedPairs
 mod Hashes
+pub mod Rooms

@@ -32,15 +32,29 @@ pub(crate) fn check(declaration: Declaration) -> Result<Checked, Refusal>
     let Some(span) = Span::new(declaration.start, declaration.end) else {
         return Err(Refusal::SpanReversed);
     };
-    Ok(Checked { kind, modifiers: declaration.modifiers, name: declaration.name, span, node: declaration.node })
+    Ok(Checked {
+        kind,
+        modifiers: declaration.modifiers,
+        name: declaration.name,
+        span,
+        node: declaration.node,
+    })
 }
 
 impl Kind {
     fn includes(self, modifiers: u8) -> SymbolFlags
         ensures { λ r. ⌜ r .0 ≡ includes (number-of self) modifiers ⌝ }
     {
-        let ambient = if modifiers & DECLARE != NO_MODIFIER { SymbolFlags::AMBIENT } else { SymbolFlags::NONE };
-        let special = if modifiers & ASYNC != NO_MODIFIER { SymbolFlags::ASYNC_OR_GENERATOR } else { SymbolFlags::NONE };
+        let ambient = if modifiers & DECLARE != NO_MODIFIER {
+            SymbolFlags::AMBIENT
+        } else {
+            SymbolFlags::NONE
+        };
+        let special = if modifiers & ASYNC != NO_MODIFIER {
+            SymbolFlags::ASYNC_OR_GENERATOR
+        } else {
+            SymbolFlags::NONE
+        };
         self.own_includes().union(ambient).union(special)
     }
 
@@ -48,9 +62,12 @@ impl Kind {
         ensures { λ r. ⌜ r .0 ≡ excludes (number-of self) modifiers typescript strict ⌝ }
     {
         match self {
-            Kind::Function if !typescript && modifiers & IF_BODY != NO_MODIFIER && !strict => SymbolFlags::NONE,
-            Kind::Function | Kind::FunctionExpression if !typescript => self.own_excludes().difference(SymbolFlags::FUNCTION_SCOPED_VARIABLE),
-            Kind::Parameter if modifiers & UNIQUE != NO_MODIFIER || strict => self.own_excludes().union(SymbolFlags::FUNCTION_SCOPED_VARIABLE),
+            Kind::Function if !typescript && modifiers & IF_BODY != NO_MODIFIER && !strict =>
+                SymbolFlags::NONE,
+            Kind::Function | Kind::FunctionExpression if !typescript => self.own_excludes()
+                .difference(SymbolFlags::FUNCTION_SCOPED_VARIABLE),
+            Kind::Parameter if modifiers & UNIQUE != NO_MODIFIER || strict => self.own_excludes()
+                .union(SymbolFlags::FUNCTION_SCOPED_VARIABLE),
             _ => self.own_excludes(),
         }
     }
@@ -62,7 +79,8 @@ impl Kind {
             Kind::Var => Manner::Hoisted,
             Kind::CatchName => Manner::Shadow,
             Kind::Infer => Manner::Conditional,
-            Kind::Function if modifiers & ASYNC == NO_MODIFIER && !typescript && !strict && !var => Manner::MovedOut,
+            Kind::Function if modifiers & ASYNC == NO_MODIFIER && !typescript && !strict && !var =>
+                Manner::MovedOut,
             _ => Manner::Here,
         }
     }
@@ -76,7 +94,13 @@ pub impl Binder for Checked as CheckedBinder {
     fn told(&self, typescript: bool, strict: bool) -> Told {
         let includes = self.kind.includes(self.modifiers);
         let excludes = self.kind.excludes(self.modifiers, typescript, strict);
-        Told { name: self.name, span: self.span, node: self.node, includes, excludes }
+        Told {
+            name: self.name,
+            span: self.span,
+            node: self.node,
+            includes,
+            excludes,
+        }
     }
 
     fn manner(&self, typescript: bool, strict: bool, var: bool) -> Manner {

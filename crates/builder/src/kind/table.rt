@@ -25,31 +25,49 @@ const NO_MODIFIER: u8 = 0;
 
 const VALUE_OR_TYPE: SymbolFlags = SymbolFlags(SymbolFlags::VALUE.0 | SymbolFlags::TYPE.0);
 
-const BESIDE_VAR: SymbolFlags = SymbolFlags(SymbolFlags::VALUE.0 - SymbolFlags::FUNCTION_SCOPED_VARIABLE.0 - SymbolFlags::FUNCTION.0);
+const BESIDE_VAR: SymbolFlags = SymbolFlags(
+    SymbolFlags::VALUE.0 - SymbolFlags::FUNCTION_SCOPED_VARIABLE.0 - SymbolFlags::FUNCTION.0,
+);
 
-const BESIDE_CLASS: SymbolFlags = SymbolFlags(VALUE_OR_TYPE.0 - SymbolFlags::INTERFACE.0 - SymbolFlags::FUNCTION.0);
+const BESIDE_CLASS: SymbolFlags = SymbolFlags(
+    VALUE_OR_TYPE.0 - SymbolFlags::INTERFACE.0 - SymbolFlags::FUNCTION.0,
+);
 
-const BESIDE_FUNCTION: SymbolFlags = SymbolFlags(SymbolFlags::VALUE.0 - SymbolFlags::FUNCTION.0 - SymbolFlags::CLASS.0);
+const BESIDE_FUNCTION: SymbolFlags = SymbolFlags(
+    SymbolFlags::VALUE.0 - SymbolFlags::FUNCTION.0 - SymbolFlags::CLASS.0,
+);
 
 const BESIDE_IMPORT: SymbolFlags = SymbolFlags(SymbolFlags::IMPORT.0 | SymbolFlags::TYPE_IMPORT.0);
 
-const BESIDE_INTERFACE: SymbolFlags = SymbolFlags(SymbolFlags::TYPE.0 - SymbolFlags::INTERFACE.0 - SymbolFlags::CLASS.0);
+const BESIDE_INTERFACE: SymbolFlags = SymbolFlags(
+    SymbolFlags::TYPE.0 - SymbolFlags::INTERFACE.0 - SymbolFlags::CLASS.0,
+);
 
 const BESIDE_ENUM: SymbolFlags = SymbolFlags(VALUE_OR_TYPE.0 - SymbolFlags::REGULAR_ENUM.0);
 
 const BESIDE_CONST_ENUM: SymbolFlags = SymbolFlags(VALUE_OR_TYPE.0 - SymbolFlags::CONST_ENUM.0);
 
-const BESIDE_TYPE_PARAMETER: SymbolFlags = SymbolFlags(SymbolFlags::TYPE.0 - SymbolFlags::TYPE_PARAMETER.0);
+const BESIDE_TYPE_PARAMETER: SymbolFlags = SymbolFlags(
+    SymbolFlags::TYPE.0 - SymbolFlags::TYPE_PARAMETER.0,
+);
 
 // Flags of kinds that have several.
 
-const CONST_FLAGS: SymbolFlags = SymbolFlags(SymbolFlags::BLOCK_SCOPED_VARIABLE.0 | SymbolFlags::CONST_VARIABLE.0);
+const CONST_FLAGS: SymbolFlags = SymbolFlags(
+    SymbolFlags::BLOCK_SCOPED_VARIABLE.0 | SymbolFlags::CONST_VARIABLE.0,
+);
 
-const FUNCTION_EXPRESSION_FLAGS: SymbolFlags = SymbolFlags(SymbolFlags::FUNCTION.0 | SymbolFlags::FUNCTION_EXPRESSION.0);
+const FUNCTION_EXPRESSION_FLAGS: SymbolFlags = SymbolFlags(
+    SymbolFlags::FUNCTION.0 | SymbolFlags::FUNCTION_EXPRESSION.0,
+);
 
-const CATCH_NAME_FLAGS: SymbolFlags = SymbolFlags(SymbolFlags::FUNCTION_SCOPED_VARIABLE.0 | SymbolFlags::CATCH_VARIABLE.0);
+const CATCH_NAME_FLAGS: SymbolFlags = SymbolFlags(
+    SymbolFlags::FUNCTION_SCOPED_VARIABLE.0 | SymbolFlags::CATCH_VARIABLE.0,
+);
 
-const CATCH_PATTERN_FLAGS: SymbolFlags = SymbolFlags(SymbolFlags::BLOCK_SCOPED_VARIABLE.0 | SymbolFlags::CATCH_VARIABLE.0);
+const CATCH_PATTERN_FLAGS: SymbolFlags = SymbolFlags(
+    SymbolFlags::BLOCK_SCOPED_VARIABLE.0 | SymbolFlags::CATCH_VARIABLE.0,
+);
 
 impl Kind {
     /// The kind of this number, counted from 1.

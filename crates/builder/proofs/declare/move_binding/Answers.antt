@@ -42,9 +42,9 @@ returns g c =
     let bounds = g .B·PairSet .bounds (c .remove .last .self) in
     let small : p .size < g .B·PairSet .capacity (c .remove .last .self) = (let q = ap (λ (x : Pairs ScopeAndName). x .size) gone in let l = c .pre in let m = bounds .enough in omega arith) in
     let pairs : g .B·PairSet .pairs (c .insert .last .self) ≡ put same-scope-and-name (drop-pair same-scope-and-name b from) to s =
-        c .insert .ensures .after ∙ put-room same-scope-and-name p to s (g .B·PairSet .capacity (c .remove .last .self)) small ∙ ap (λ x. put same-scope-and-name x to s) gone in
+    c .insert .ensures .after ∙ put-room same-scope-and-name p to s (g .B·PairSet .capacity (c .remove .last .self)) small ∙ ap (λ x. put same-scope-and-name x to s) gone in
     let rows : contents (c .set-symbol .last .self) ≡ with-symbols t (set (t .symbols) s (with-scope (getD (t .symbols) s no-symbol) (c .args .to .0))) =
-        c .set-symbol .ensures .after ∙ ap (λ (r : SymbolRow). with-symbols t (set (t .symbols) s (with-scope r (c .args .to .0)))) (c .symbol-or-empty-row .ensures) in
+    c .set-symbol .ensures .after ∙ ap (λ (r : SymbolRow). with-symbols t (set (t .symbols) s (with-scope r (c .args .to .0)))) (c .symbol-or-empty-row .ensures) in
     record {
       names = λ h. ap (λ x. names-of x (g .B·PairSet .pairs (c .insert .last .self)) h) rows
           ∙ ap (λ x. names-of (with-symbols t (set (t .symbols) s (with-scope (getD (t .symbols) s no-symbol) (c .args .to .0)))) x h) pairs

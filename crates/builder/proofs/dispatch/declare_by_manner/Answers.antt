@@ -85,4 +85,3 @@ returns-in-Conditional g c =
           (c .is-strict-strict .ensures) (c .is-var-var .ensures) (c .told-d .ensures) (c .in-Conditional .ensures tt);
       rest = c .declare-symbol-on-scope-in-Conditional .ensures .rest;
     }
-

@@ -37,9 +37,10 @@ climb-again g c =
     let small : p .size < g .H·PairSet .capacity (c .climb .hoisting) = (let m = bounds .enough in let i = c .climb .inv .1 in omega arith) in
     let e : g .H·PairSet .pairs (c .insert .last .self) ≡ put same-scope-and-name p k s = c .insert .ensures .after ∙ put-room same-scope-and-name p k s (g .H·PairSet .capacity (c .climb .hoisting)) small in
     let z = ap (λ (q : Pairs ScopeAndName). q .size) e in
-    let more = put-size same-scope-and-name p k s in
-    (ap (λ q. hoist-pairs q (passed (contents t .scopes) (c .in-Some .above .0)) n s) e ∙ sym (ap (λ ps. hoist-pairs p ps n s) way) ∙ c .climb .inv .0,
-    (let i = c .climb .inv .1 in omega arith))
+    let more = put-size same-scope-and-name p k s in (
+      ap (λ q. hoist-pairs q (passed (contents t .scopes) (c .in-Some .above .0)) n s) e ∙ sym (ap (λ ps. hoist-pairs p ps n s) way) ∙ c .climb .inv .0,
+      (let i = c .climb .inv .1 in omega arith),
+    )
 
 pub returns-in-rest : need.returns-in-rest
 returns-in-rest g c =

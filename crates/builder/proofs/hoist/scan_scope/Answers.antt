@@ -57,7 +57,7 @@ returns-then-not-intersects g c =
     let s = c .in-Continue-symbol .symbol .0 in
     let e = c .in-Continue-symbol .ensures tt .names b h in
     let f : meets (flags-of nm s) ByValue ≡ false =
-        sym (ap (λ (x : Names). meets (flags-of x s) ByValue) e) ∙ sym (ap (λ (r : SymbolRow). meets (r .flags .0) ByValue) (c .symbol-or-empty .ensures)) ∙ sym (c .intersects .ensures) ∙ c .if-not-intersects .taken in
+    sym (ap (λ (x : Names). meets (flags-of x s) ByValue) e) ∙ sym (ap (λ (r : SymbolRow). meets (r .flags .0) ByValue) (c .symbol-or-empty .ensures)) ∙ sym (c .intersects .ensures) ∙ c .if-not-intersects .taken in
     record {
       names = ap goes-on e ∙ sym (ap (λ t. cond t (stops d (c .args .to .0) nm (c .args .at .0) s) (goes-on (complain d nm s))) f)
           ∙ ap (λ o. maybe o (goes-on nm) (stepped-at d (c .args .to .0) nm (c .args .at .0))) (c .in-Continue-symbol .ensures tt .answer);
@@ -74,7 +74,7 @@ returns g c =
     let s = c .in-Continue-symbol .symbol .0 in
     let e = c .in-Continue-symbol .ensures tt .names b h in
     let f : meets (flags-of nm s) ByValue ≡ true =
-        sym (ap (λ (x : Names). meets (flags-of x s) ByValue) e) ∙ sym (ap (λ (r : SymbolRow). meets (r .flags .0) ByValue) (c .symbol-or-empty .ensures)) ∙ sym (c .intersects .ensures) ∙ c .if-not-intersects .left in
+    sym (ap (λ (x : Names). meets (flags-of x s) ByValue) e) ∙ sym (ap (λ (r : SymbolRow). meets (r .flags .0) ByValue) (c .symbol-or-empty .ensures)) ∙ sym (c .intersects .ensures) ∙ c .if-not-intersects .left in
     let all = c .move-binding .ensures .names h ∙ ap (λ x. move-binding x (c .args .at .0) (c .args .to .0) (d .name) s) (c .add-symbol-redeclaration .ensures .names b h ∙ ap (λ x. add-symbol-redeclaration d x s) e) in
     record {
       names = ap (as-stopped s) all ∙ sym (ap (λ t. cond t (stops d (c .args .to .0) nm (c .args .at .0) s) (goes-on (complain d nm s))) f)

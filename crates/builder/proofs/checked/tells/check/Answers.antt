@@ -55,7 +55,8 @@ returns c =
     let mods : c .modifiers .result ≡ kind-row (d .kind) .modifiers = c .modifiers .ensures ∙ ap (λ n. kind-row n .modifiers) (r .number (c .in-Some .kind) k) in
     let all : not (eqb (less (d .modifiers) (kind-row (d .kind) .modifiers)) 0) ≡ false = modifiers-all (d .modifiers) (kind-row (d .kind) .modifiers) (sym (ap (bitAnd (d .modifiers)) mods) ∙ c .if-declaration-modifiers .left) in
     let span = c .in-Some-new .ensures tt in
-    let ordered : d .start ≤ d .end = (let o = c .in-Some-new .span .ordered in let x = span .0 in let y = span .1 in omega arith) in
-    (ap (λ t. tests t (not (eqb (less (d .modifiers) (kind-row (d .kind) .modifiers)) 0)) (ltb (d .end) (d .start))) (known-test (d .kind) (range .0) (range .1))
-    ∙ ap (λ t. tests false t (ltb (d .end) (d .start))) all ∙ ap (tests false false) (le-ltb (d .end) (d .start) ordered),
-    record { kind = r .number (c .in-Some .kind) k; modifiers = refl; name = refl; start = span .0; end = span .1; node = refl })
+    let ordered : d .start ≤ d .end = (let o = c .in-Some-new .span .ordered in let x = span .0 in let y = span .1 in omega arith) in (
+      ap (λ t. tests t (not (eqb (less (d .modifiers) (kind-row (d .kind) .modifiers)) 0)) (ltb (d .end) (d .start))) (known-test (d .kind) (range .0) (range .1))
+          ∙ ap (λ t. tests false t (ltb (d .end) (d .start))) all ∙ ap (tests false false) (le-ltb (d .end) (d .start) ordered),
+      record { kind = r .number (c .in-Some .kind) k; modifiers = refl; name = refl; start = span .0; end = span .1; node = refl },
+    )

@@ -1,4 +1,4 @@
-use Prim.Native.Nat.{_+_, _*_, _%_, _^_}
+use Prim.Native.Nat.{_*_, _%_, _^_}
 use Rattle.stores.proofs.Hashes.{scrambled-small}
 use Rattle.stores.proofs.key.NameKey.the-impl.Needs as need
 
