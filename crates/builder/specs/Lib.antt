@@ -7,3 +7,4 @@ pub mod KindNumbers
 pub mod Checking
 pub mod Waiting
 pub mod State
+pub mod Reading

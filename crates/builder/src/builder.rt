@@ -13,6 +13,7 @@ use tables::scoping::Scoping;
 
 mod calls;
 mod made;
+mod reads;
 mod parts;
 
 pub use calls::SemanticBuilderBinding;

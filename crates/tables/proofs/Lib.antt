@@ -1,3 +1,4 @@
 pub mod Nths
+pub mod Owners
 pub mod TreeRows
 pub mod Bounds

@@ -7,3 +7,5 @@ pub mod Limits
 pub mod RowList
 pub mod Trees
 pub mod Contents
+pub mod Picked
+pub mod Reading

@@ -3,6 +3,7 @@
 pub mod flags;
 pub mod id;
 pub mod limits;
+mod owned;
 pub mod refusal;
 pub mod row;
 mod rows;

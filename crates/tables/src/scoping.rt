@@ -16,6 +16,7 @@ use crate::row::SymbolRow;
 use crate::row::UnresolvedReference;
 use crate::rows::Rows;
 
+mod lists;
 mod reads;
 mod writes;
 

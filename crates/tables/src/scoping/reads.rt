@@ -3,6 +3,7 @@ ghost use lib.ListN.{length, getD};
 ghost use Rattle.std.specs.Finite.{nth};
 ghost use Rattle.tables.specs.Contents.{contents, row-answer, declaration-answer, has-redeclaration};
 ghost use Rattle.tables.specs.EmptyRows.{no-scope, no-symbol, no-reference};
+ghost use Rattle.tables.specs.Reading.{if-there, span-ends, symbol-ends};
 use super::Scoping;
 use crate::flags::ReferenceFlags;
 use crate::flags::ScopeFlags;
@@ -26,6 +27,7 @@ use crate::row::RootReference;
 use crate::row::ScopeRow;
 use crate::row::SymbolRow;
 use crate::row::UnresolvedReference;
+use crate::span::Span;
 
 // How an absent row reads where no refusal is asked for.
 pub(crate) const NO_SCOPE: ScopeRow = ScopeRow {
@@ -50,7 +52,7 @@ const NO_REFERENCE: ReferenceRow = ReferenceRow {
 };
 
 /// A row that was asked for, or the refusal.
-fn present<T>(row: Option<T>) -> Result<T, Refusal>
+pub(crate) fn present<T>(row: Option<T>) -> Result<T, Refusal>
     ensures { λ r. ⌜ r ≡ row-answer row ⌝ }
 {
     match row {
@@ -118,6 +120,14 @@ impl Scoping {
         ensures { λ r. ⌜ r ≡ row-answer (nth (contents (now (self .entry)) .symbols) (id .0)) ⌝ }
     {
         present(self.symbols.get(id.0 as usize))
+    }
+
+    /// The symbol's span.
+    pub fn symbol_span(&self, id: SymbolId) -> Result<Span, Refusal>
+        ensures { λ r. ⌜ span-ends r ≡ if-there (nth (contents (now (self .entry)) .symbols) (id .0)) symbol-ends ⌝ }
+    {
+        let row = self.symbol(id)?;
+        present(Span::new(row.start, row.end))
     }
 
     pub fn reference(&self, id: ReferenceId) -> Result<ReferenceRow, Refusal>
