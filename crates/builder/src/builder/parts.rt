@@ -4,16 +4,9 @@ use super::SemanticBuilder;
 use stores::key::ScopeAndName;
 use stores::store::Store;
 use tables::id::Name;
-use tables::id::ScopeId;
 use tables::scoping::Scoping;
 
 impl<B: Store<ScopeAndName>, H: Store<ScopeAndName>, R: Store<Name>> SemanticBuilder<B, H, R> {
-    pub fn current_scope(&self) -> ScopeId
-        ensures { λ r. ⌜ r ≡ now (self .entry) .current ⌝ }
-    {
-        self.current
-    }
-
     pub fn scoping(&self) -> &Scoping
         ensures { λ r. ⌜ now r ≡ now (self .entry) .scoping ⌝ }
     {
