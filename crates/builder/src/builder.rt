@@ -13,8 +13,8 @@ use tables::scoping::Scoping;
 
 mod calls;
 mod made;
-mod reads;
 mod parts;
+mod reads;
 
 pub use calls::SemanticBuilderBinding;
 
