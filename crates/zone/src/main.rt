@@ -1,36 +1,16 @@
 //! The program `zone`: reads an operation list, runs it, and lists the answers and the tables.
-mod script_names;
-mod table_writer;
 
-use crate::table_writer::write_tables;
-use builder::builder::SemanticBuilder;
-use builder::builder::SemanticBuilderBinding;
-use hash_store::hash::HashStore;
-use hash_store::hash::HashStorePairSet;
-use hash_store::hash::HashStoreStore;
-use hash_store::slot::Slot;
-use list_store::entry::Entry;
-use list_store::list::ListStore;
-use list_store::list::ListStorePairSet;
-use list_store::list::ListStoreStore;
 use model::call::Answer;
-use model::call::Call;
 use model::setting::Setting;
-use session::run::run;
-use std::alloc::AllocError;
 use std::env;
 use std::fs;
 use std::io;
 use std::io::Read;
-use stores::key::NameKey;
-use stores::key::ScopeAndName;
-use stores::key::ScopeAndNameKey;
-use stores::store::Store;
-use tables::id::Name;
-use tables::id::ScopeId;
-use tables::scoping::Scoping;
 use zone_listing::answer::AnswerLine;
 use zone_listing::answer::AnswerLineDisplay;
+use zone_report::no_memory::NoMemory;
+use zone_report::report_hashed;
+use zone_report::report_listed;
 use zone_text::message::BadLineDisplay;
 use zone_text::script::ParseError;
 use zone_text::script::Script;
@@ -52,8 +32,8 @@ impl From<io::Error> for Failure as FailureFromIo {
     }
 }
 
-impl From<AllocError> for Failure as FailureFromAlloc {
-    fn from(_error: AllocError) -> Failure {
+impl From<NoMemory> for Failure as FailureFromNoMemory {
+    fn from(_error: NoMemory) -> Failure {
         Failure::NoMemory
     }
 }
@@ -93,91 +73,18 @@ fn read_text(rt: &LibcRuntime, file: &Option<String>) -> io::Result<Vec<u8>> {
     }
 }
 
-/// How many slots each hashed store is lent: four times as many as it may come to hold.
-const SLOTS: usize = 2048;
-
-/// How many entries each list store is lent.
-const ENTRIES: usize = 512;
-
-const NO_KEY: ScopeAndName = ScopeAndName {
-    scope: ScopeId::ROOT,
-    name: Name::ARGUMENTS,
-};
-
-/// Runs the list over three stores, and writes its answers and tables.
-fn list_over<B: Store<ScopeAndName> + Drop, H: Store<ScopeAndName> + Drop, R: Store<Name> + Drop>(
-    rt: &LibcRuntime,
-    setting: Setting,
-    calls: &[Call],
-    bindings: B,
-    hoisting: H,
-    roots: R,
-) -> Result<(), Failure> {
-    let scoping = Scoping::reserve(rt.alloc())?;
-    let mut builder = SemanticBuilder::new(setting, scoping, bindings, hoisting, roots);
-    let answers = run(rt.alloc(), &mut builder, setting, calls)?;
-    for answer in answers.iter() {
-        let line = AnswerLine(*answer);
-        println!(rt, "{line}")?;
-    }
-    write_tables(
-        rt,
-        builder.current_scope(),
-        builder.scoping(),
-        builder.bindings(),
-        builder.hoisting(),
-        builder.roots(),
-        calls,
-    )?;
-    Ok(())
-}
-
-fn list_hashed(rt: &LibcRuntime, setting: Setting, calls: &[Call]) -> Result<(), Failure> {
-    let mut bindings = [Slot::Empty; SLOTS];
-    let mut hoisting = [Slot::Empty; SLOTS];
-    let mut roots = [Slot::Empty; SLOTS];
-    list_over(
-        rt,
-        setting,
-        calls,
-        HashStore::new(&mut bindings),
-        HashStore::new(&mut hoisting),
-        HashStore::new(&mut roots),
-    )
-}
-
-fn list_listed(rt: &LibcRuntime, setting: Setting, calls: &[Call]) -> Result<(), Failure> {
-    let mut bindings = [Entry {
-        key: NO_KEY,
-        number: 0,
-    }; ENTRIES];
-    let mut hoisting = [Entry {
-        key: NO_KEY,
-        number: 0,
-    }; ENTRIES];
-    let mut roots = [Entry {
-        key: Name::ARGUMENTS,
-        number: 0,
-    }; ENTRIES];
-    list_over(
-        rt,
-        setting,
-        calls,
-        ListStore::new(&mut bindings),
-        ListStore::new(&mut hoisting),
-        ListStore::new(&mut roots),
-    )
-}
-
 /// Runs the list under its setting, if that is granted.
 fn list(rt: &LibcRuntime, script: &Script, list_stores: bool) -> Result<(), Failure> {
     match Setting::from_bits(script.setting.unwrap_or(0)) {
         Ok(setting) => {
-            if list_stores {
-                list_listed(rt, setting, script.calls.as_slice())
+            let calls = script.calls.as_slice();
+            let report = if list_stores {
+                report_listed(rt.alloc(), setting, calls)?
             } else {
-                list_hashed(rt, setting, script.calls.as_slice())
-            }
+                report_hashed(rt.alloc(), setting, calls)?
+            };
+            print!(rt, "{report}")?;
+            Ok(())
         }
         Err(refusal) => {
             let line = AnswerLine(Answer::Refused(refusal));

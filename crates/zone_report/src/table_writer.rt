@@ -1,7 +1,8 @@
 //! The tables of a binding, row by row.
+use crate::no_memory::NoMemory;
+use crate::no_memory::NoMemoryFromFmt;
 use crate::script_names::name_of_list;
 use model::call::Call;
-use std::io;
 use stores::key::ScopeAndName;
 use stores::store::Store;
 use tables::id::Name;
@@ -37,28 +38,28 @@ fn number(count: usize) -> u32 {
 }
 
 /// The rows of scopes, symbols and references.
-fn write_rows(rt: &LibcRuntime, current: ScopeId, scoping: &Scoping) -> io::Result<()> {
+fn write_rows(out: &mut String, current: ScopeId, scoping: &Scoping) -> Result<(), NoMemory> {
     let line = CurrentLine(current);
-    println!(rt, "{line}")?;
+    writeln!(out, "{line}")?;
     for i in 0..number(scoping.scope_count()) {
         let scope = ScopeId(i);
         if let Ok(row) = scoping.scope(scope) {
             let line = ScopeLine { scope, row };
-            println!(rt, "{line}")?;
+            writeln!(out, "{line}")?;
         }
     }
     for i in 0..number(scoping.symbol_count()) {
         let symbol = SymbolId(i);
         if let Ok(row) = scoping.symbol(symbol) {
             let line = SymbolLine { symbol, row };
-            println!(rt, "{line}")?;
+            writeln!(out, "{line}")?;
         }
     }
     for i in 0..number(scoping.reference_count()) {
         let reference = ReferenceId(i);
         if let Ok(row) = scoping.reference(reference) {
             let line = ReferenceLine { reference, row };
-            println!(rt, "{line}")?;
+            writeln!(out, "{line}")?;
         }
     }
     Ok(())
@@ -66,11 +67,11 @@ fn write_rows(rt: &LibcRuntime, current: ScopeId, scoping: &Scoping) -> io::Resu
 
 /// Bindings or hoisted variables. The store is asked for each scope and each symbol's name: the pair is there if it leads to that symbol.
 fn write_pairs<S: Store<ScopeAndName>>(
-    rt: &LibcRuntime,
+    out: &mut String,
     scoping: &Scoping,
     table: PairTable,
     pairs: &S,
-) -> io::Result<()> {
+) -> Result<(), NoMemory> {
     for i in 0..number(scoping.scope_count()) {
         for k in 0..number(scoping.symbol_count()) {
             let scope = ScopeId(i);
@@ -79,7 +80,7 @@ fn write_pairs<S: Store<ScopeAndName>>(
             let key = ScopeAndName { scope, name };
             if pairs.get(key) == Some(k) {
                 let line = PairLine { table, key, symbol };
-                println!(rt, "{line}")?;
+                writeln!(out, "{line}")?;
             }
         }
     }
@@ -87,7 +88,7 @@ fn write_pairs<S: Store<ScopeAndName>>(
 }
 
 /// Redeclarations by symbol, and conflicts.
-fn write_declarations(rt: &LibcRuntime, scoping: &Scoping) -> io::Result<()> {
+fn write_declarations(out: &mut String, scoping: &Scoping) -> Result<(), NoMemory> {
     for i in 0..number(scoping.symbol_count()) {
         let mut index = 0usize;
         for k in 0..scoping.redeclaration_count() {
@@ -95,7 +96,7 @@ fn write_declarations(rt: &LibcRuntime, scoping: &Scoping) -> io::Result<()> {
                 && entry.symbol.0 == i
             {
                 let line = RedeclarationLine { index, entry };
-                println!(rt, "{line}")?;
+                writeln!(out, "{line}")?;
                 index = index.saturating_add(1);
             }
         }
@@ -103,18 +104,18 @@ fn write_declarations(rt: &LibcRuntime, scoping: &Scoping) -> io::Result<()> {
     for index in 0..scoping.conflict_count() {
         if let Ok(entry) = scoping.conflict(index) {
             let line = ConflictLine { index, entry };
-            println!(rt, "{line}")?;
+            writeln!(out, "{line}")?;
         }
     }
     Ok(())
 }
 
 /// Pending references, and resolved ones by symbol.
-fn write_references(rt: &LibcRuntime, scoping: &Scoping) -> io::Result<()> {
+fn write_references(out: &mut String, scoping: &Scoping) -> Result<(), NoMemory> {
     for index in 0..scoping.pending_count() {
         if let Ok(entry) = scoping.pending(index) {
             let line = PendingLine { index, entry };
-            println!(rt, "{line}")?;
+            writeln!(out, "{line}")?;
         }
     }
     for i in 0..number(scoping.symbol_count()) {
@@ -124,7 +125,7 @@ fn write_references(rt: &LibcRuntime, scoping: &Scoping) -> io::Result<()> {
                 && entry.symbol.0 == i
             {
                 let line = ResolvedLine { index, entry };
-                println!(rt, "{line}")?;
+                writeln!(out, "{line}")?;
                 index = index.saturating_add(1);
             }
         }
@@ -133,7 +134,12 @@ fn write_references(rt: &LibcRuntime, scoping: &Scoping) -> io::Result<()> {
 }
 
 // One root unresolved list.
-fn write_root_list(rt: &LibcRuntime, scoping: &Scoping, list: u32, name: Name) -> io::Result<()> {
+fn write_root_list(
+    out: &mut String,
+    scoping: &Scoping,
+    list: u32,
+    name: Name,
+) -> Result<(), NoMemory> {
     let mut index = 0usize;
     for k in 0..scoping.root_count() {
         if let Ok(entry) = scoping.root(k)
@@ -145,7 +151,7 @@ fn write_root_list(rt: &LibcRuntime, scoping: &Scoping, list: u32, name: Name) -
                 index,
                 reference,
             };
-            println!(rt, "{line}")?;
+            writeln!(out, "{line}")?;
             index = index.saturating_add(1);
         }
     }
@@ -154,14 +160,14 @@ fn write_root_list(rt: &LibcRuntime, scoping: &Scoping, list: u32, name: Name) -
 
 /// The root unresolved lists. Their names stand in the store alone, which is asked for the names that the calls refer to.
 fn write_roots<R: Store<Name>>(
-    rt: &LibcRuntime,
+    out: &mut String,
     scoping: &Scoping,
     roots: &R,
     calls: &[Call],
-) -> io::Result<()> {
+) -> Result<(), NoMemory> {
     for list in 0..number(roots.count()) {
         if let Some(name) = name_of_list(roots, calls, list) {
-            write_root_list(rt, scoping, list, name)?;
+            write_root_list(out, scoping, list, name)?;
         }
     }
     Ok(())
@@ -169,18 +175,18 @@ fn write_roots<R: Store<Name>>(
 
 /// All tables, in the order of the format.
 pub fn write_tables<B: Store<ScopeAndName>, H: Store<ScopeAndName>, R: Store<Name>>(
-    rt: &LibcRuntime,
+    out: &mut String,
     current: ScopeId,
     scoping: &Scoping,
     bindings: &B,
     hoisting: &H,
     roots: &R,
     calls: &[Call],
-) -> io::Result<()> {
-    write_rows(rt, current, scoping)?;
-    write_pairs(rt, scoping, PairTable::Bindings, bindings)?;
-    write_pairs(rt, scoping, PairTable::Hoisting, hoisting)?;
-    write_declarations(rt, scoping)?;
-    write_references(rt, scoping)?;
-    write_roots(rt, scoping, roots, calls)
+) -> Result<(), NoMemory> {
+    write_rows(out, current, scoping)?;
+    write_pairs(out, scoping, PairTable::Bindings, bindings)?;
+    write_pairs(out, scoping, PairTable::Hoisting, hoisting)?;
+    write_declarations(out, scoping)?;
+    write_references(out, scoping)?;
+    write_roots(out, scoping, roots, calls)
 }
