@@ -1,5 +1,5 @@
 -- The kinds of declaration: the modifiers that each takes, the flags that it gives its symbol, and the flags beside which it may not stand.
-use Rattle.std.specs.Prelude.{ℕ, ◌+◌, Bool, true, false, cond, not, ◌&&◌, ◌||◌, List, [], ◌∷◌, ◌==◌, bit_or, slice_index_or}
+use Rattle.std.specs.Prelude.{ℕ, ◌+◌, Bool, cond, not, ◌&&◌, ◌||◌, List, [], ◌∷◌, ◌==◌, bit_or, slice_index_or}
 use Rattle.tables.specs.Flags.{meets, less, FunctionScopedVariable, BlockScopedVariable, ConstVariable, Class, CatchVariable, FunctionSymbol, FunctionExpression, AsyncOrGenerator, Import, TypeImport, TypeAlias, Interface, RegularEnum, ConstEnum, EnumMember, TypeParameter, Ambient, Value, TypeLike, ValueOrType}
 use Rattle.model.specs.declared.manner.Manner.{Manner}
 use Rattle.model.specs.declared.manner.Manner.TheVariants.{Here, Hoisted, MovedOut, Shadow, Conditional}

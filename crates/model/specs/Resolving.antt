@@ -1,15 +1,13 @@
 -- References, and how they find their symbols.
-use Rattle.std.specs.Prelude.{ℕ, ◌+◌, Bool, true, false, cond, not, ◌&&◌, ◌||◌, List, [], ◌∷◌, ◌++◌, length, take, drop, Some, None, Option, ◌==◌, nat_eq, slice_set}
+use Rattle.std.specs.Prelude.{ℕ, ◌+◌, Bool, cond, not, ◌&&◌, ◌||◌, List, [], ◌∷◌, ◌++◌, take, drop, Some, None, Option, ◌==◌, nat_eq, slice_set}
 use Rattle.tables.specs.Flags.{meets, less, Read, ValueUse, TypeUse, ValueAsType, NamespaceUse, ByValue, ByType, ByValueAsType, ByNamespace, FunctionExpression}
 use Rattle.tables.specs.declared.row.ScopeRow.{ScopeRow}
 use Rattle.tables.specs.declared.row.ReferenceRow.{ReferenceRow}
 use Rattle.tables.specs.declared.row.UnresolvedReference.{UnresolvedReference}
-use Rattle.tables.specs.declared.row.ResolvedReference.{ResolvedReference}
-use Rattle.tables.specs.declared.row.RootReference.{RootReference}
 use Rattle.tables.specs.declared.id.Name.{Name}
 use Rattle.stores.specs.Pairs.{Pairs, put}
 use Rattle.stores.specs.Keys.{same_name}
-use Rattle.model.specs.Basics.{maybe, until, any, the_name, the_scope, the_symbol, the_reference, reference_flags}
+use Rattle.model.specs.Basics.{maybe, until, any, the_name, the_scope, the_symbol, reference_flags}
 use Rattle.model.specs.State.{Names, Uses, reference_row, use_flags, flags_of}
 use Rattle.model.specs.Scopes.{parent_of, is_plain_function, chain, is_below}
 use Rattle.model.specs.Declaring.{binding}

@@ -1,5 +1,5 @@
 -- Scopes and their chains.
-use Rattle.std.specs.Prelude.{ℕ, zero, suc, Bool, true, false, cond, not, ◌&&◌, List, [], ◌∷◌, Option, nat_eq}
+use Rattle.std.specs.Prelude.{ℕ, zero, suc, Bool, not, ◌&&◌, List, [], ◌∷◌, Option, nat_eq}
 use Rattle.tables.specs.Flags.{meets, VarScope, StrictMode, Function, Arrow, TsConditional}
 use Rattle.tables.specs.declared.row.ScopeRow.{ScopeRow}
 use Rattle.model.specs.Basics.{maybe, scope_number, before, first, any}

@@ -1,5 +1,5 @@
 -- No table holds more rows than it has places for.
-use Rattle.std.proofs.Common.{◌≡◌, ◌≤◌, length, arith}
+use Rattle.std.proofs.Common.{◌≤◌, length, arith}
 use Rattle.tables.specs.Limits.{most_references}
 use Rattle.tables.specs.Contents.{contents}
 use Rattle.tables.specs.declared.scoping.Scoping.{Scoping}

@@ -1,7 +1,7 @@
 -- The scope rows stay a tree.
-use Rattle.std.proofs.Common.{◌≡◌, ℕ, ◌<◌, ◌≤◌, ◌≢◌, List, [], ◌∷◌, ◌++◌, length, get_or, set, Some, None, Option, sym, refl, ap, ◌∙◌, ⊎_elim, arith, get_or-set_other, get_or-set_same}
-use lib.ListN.{get_or_append}
-use lib.Seq.{get_or_append_seam}
+use Rattle.std.proofs.Common.{◌≡◌, ℕ, ◌<◌, ◌≤◌, ◌≢◌, List, [], ◌∷◌, ◌++◌, length, set, Some, None, Option, sym, ap, ◌∙◌, ⊎_elim, arith, get_or-set_other, get_or-set_same}
+use lib.ListN.{get_or-append}
+use lib.Seq.{get_or-append_seam}
 use Rattle.std.proofs.lemmas.List.{length_push}
 use Rattle.std.proofs.lemmas.Bool.{cases_order, cases_eq, cases_lt}
 use Rattle.tables.specs.declared.row.ScopeRow.{ScopeRow}
@@ -16,9 +16,9 @@ tree_none s p e = let z : ◌≡◌ {A = ℕ} 0 1 = cc in absurd (omega arith)
 pub tree_push : (xs : List ScopeRow) (row : ScopeRow) → Tree xs → ((p : ℕ) → scope_number row.parent ≡ Some p → p < length xs) → Tree (xs ++ row ∷ [])
 tree_push xs row t h s p e =
     ⊎_elim (λ (q : s ≡ length xs).
-    let e2 : scope_number row.parent ≡ Some p = sym (ap (λ n. parent_at (xs ++ row ∷ []) n) q ∙ ap (λ (r : ScopeRow). scope_number r.parent) (get_or_append_seam xs row [] no_scope)) ∙ e in
+    let e2 : scope_number row.parent ≡ Some p = sym (ap (λ n. parent_at (xs ++ row ∷ []) n) q ∙ ap (λ (r : ScopeRow). scope_number r.parent) (get_or-append_seam xs row [] no_scope)) ∙ e in
     let k = h p e2 in omega arith)
-    (⊎_elim (λ (q : s < length xs). t s p (ap (λ (r : ScopeRow). scope_number r.parent) (sym (get_or_append xs (row ∷ []) no_scope s q)) ∙ e))
+    (⊎_elim (λ (q : s < length xs). t s p (ap (λ (r : ScopeRow). scope_number r.parent) (sym (get_or-append xs (row ∷ []) no_scope s q)) ∙ e))
     (λ (q : length xs < s).
     let l = length_push xs row in
     let n = get_d_past (xs ++ row ∷ []) s no_scope (omega arith) in

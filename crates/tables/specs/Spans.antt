@@ -1,5 +1,5 @@
 -- What making a span answers.
-use Rattle.std.specs.Prelude.{◌≡◌, ℕ, ◌<◌, ◌≤◌, Some, None, Option}
+use Rattle.std.specs.Prelude.{◌≡◌, ℕ, ◌<◌, Some, None, Option}
 
 -- a span of exactly these ends; none exactly if it would end before it starts
 abbrev pub Spanned : {S : Type 0} → (S → ℕ) → (S → ℕ) → ℕ → ℕ → Option S → Type 0

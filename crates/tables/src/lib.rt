@@ -1,4 +1,5 @@
 //! Row tables with fixed limits: ids, flags, spans, rows, refusals, and `Scoping`, which holds the rows.
+#![tactic(auto)]
 
 pub mod flags;
 pub mod id;

@@ -5,16 +5,16 @@ use Rattle.tables.specs.Picked.{owned}
 use Rattle.tables.proofs.Nths.{nth_there}
 use Rattle.tables.proofs.Owners.{owned_here, owned_elsewhere, owned_all}
 use Rattle.tables.proofs.rows.Rows.get_of.Goals as goal
-use Rattle.tables.proofs.rows.Rows.get_of.Goals.{then-owner-number-owner+else-ahead-eq0, else-owner-number-owner}
+use Rattle.tables.proofs.rows.Rows.get_of.Goals.{then-owner_number-owner+else-ahead-eq0, else-owner_number-owner}
 
 pub unreachable-requires : goal.unreachable-requires
-unreachable-requires g c = nth_there (rows c.args.self.now) c.loop-i.i (omega arith) (sym c.in-default.ensures)
+unreachable-requires g c = nth_there (rows c.args.self.now) c.loop-i.i (omega arith) (sym c.in_default.ensures)
 
 pub returns-then-ahead-eq0 : goal.returns-then-ahead-eq0
 returns-then-ahead-eq0 g c =
     let xs = rows c.args.self.now in
     let rest = owned g.T.OwnedRow.owner c.args.owner (drop (c.loop-i.i + 1) xs) in
-    let here = owned_here g.T.OwnedRow.owner c.args.owner xs c.loop-i.i c.in-Some.row (sym c.in-Some.ensures) (sym c.owner-number.ensures ∙ c.if-owner-number-owner.true) in
+    let here = owned_here g.T.OwnedRow.owner c.args.owner xs c.loop-i.i c.in-Some.row (sym c.in-Some.ensures) (sym c.owner_number.ensures ∙ c.if-owner_number-owner.true) in
     ap (slice_get (c.in-Some.row ∷ rest)) (sym c.if-ahead-eq0.true) ∙ ap (λ ys. slice_get ys c.loop-i.ahead) (sym here) ∙ c.loop-i.invariant
 
 pub loop-i-preserved : goal.loop-i-preserved
@@ -22,13 +22,13 @@ loop-i-preserved g c =
     let xs = rows c.args.self.now in
     let h = sym c.in-Some.ensures in
     let rest = owned g.T.OwnedRow.owner c.args.owner (drop (c.loop-i.i + 1) xs) in
-    elim c.if-owner-number-owner.branch [
-      | then-owner-number-owner+else-ahead-eq0 w ↦
-          let here = owned_here g.T.OwnedRow.owner c.args.owner xs c.loop-i.i c.in-Some.row h (sym c.owner-number.ensures ∙ w.if-owner-number-owner.true) in
-          let one : suc c.if-owner-number-owner.ahead ≡ c.loop-i.ahead = omega (arith, w.ahead-is, w.if-ahead-eq0.false) in
+    elim c.if-owner_number-owner.branch [
+      | then-owner_number-owner+else-ahead-eq0 w ↦
+          let here = owned_here g.T.OwnedRow.owner c.args.owner xs c.loop-i.i c.in-Some.row h (sym c.owner_number.ensures ∙ w.if-owner_number-owner.true) in
+          let one : suc c.if-owner_number-owner.ahead ≡ c.loop-i.ahead = omega (arith, w.ahead-is, w.if-ahead-eq0.false) in
           ap (slice_get (c.in-Some.row ∷ rest)) one ∙ ap (λ ys. slice_get ys c.loop-i.ahead) (sym here) ∙ c.loop-i.invariant
-      | else-owner-number-owner w ↦
-          let elsewhere = owned_elsewhere g.T.OwnedRow.owner c.args.owner xs c.loop-i.i c.in-Some.row h (λ o. w.if-owner-number-owner.false (c.owner-number.ensures ∙ o)) in
+      | else-owner_number-owner w ↦
+          let elsewhere = owned_elsewhere g.T.OwnedRow.owner c.args.owner xs c.loop-i.i c.in-Some.row h (λ o. w.if-owner_number-owner.false (c.owner_number.ensures ∙ o)) in
           ap (slice_get rest) w.ahead-is ∙ ap (λ ys. slice_get ys c.loop-i.ahead) (sym elsewhere) ∙ c.loop-i.invariant
     ]
 

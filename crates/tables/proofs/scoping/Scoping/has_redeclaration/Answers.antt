@@ -1,4 +1,4 @@
-use Rattle.std.proofs.Common.{◌≡◌, ◌+◌, false, ◌||◌, drop, sym, ap, ◌∙◌, arith}
+use Rattle.std.proofs.Common.{◌+◌, ◌||◌, drop, sym, ap, ◌∙◌, arith}
 use Rattle.std.proofs.lemmas.Bool.{or_left, eq-eqb, ne_eqb}
 use Rattle.std.proofs.lemmas.List.{drop_all}
 use Rattle.tables.specs.Contents.{contents, has_redeclaration}
@@ -6,7 +6,7 @@ use Rattle.tables.proofs.Nths.{nth_there, drop_nth}
 use Rattle.tables.proofs.scoping.Scoping.has_redeclaration.Goals as goal
 
 pub unreachable-requires : goal.unreachable-requires
-unreachable-requires c = nth_there (contents c.args.self.now).redeclarations c.loop-k.k (omega arith) (sym c.in-default.ensures)
+unreachable-requires c = nth_there (contents c.args.self.now).redeclarations c.loop-k.k (omega arith) (sym c.in_default.ensures)
 
 pub returns-then-redeclaration-symbol : goal.returns-then-redeclaration-symbol
 returns-then-redeclaration-symbol c =

@@ -1,4 +1,4 @@
-use Rattle.std.proofs.Common.{◌≡◌, sym, ap, ◌∙◌, subst}
+use Rattle.std.proofs.Common.{sym, ap, subst}
 use Rattle.tables.specs.declared.row.ScopeRow.{ScopeRow}
 use Rattle.tables.specs.Ids.{scope_number}
 use Rattle.tables.specs.RowList.{rows}
@@ -6,7 +6,7 @@ use Rattle.tables.specs.Trees.{Tree}
 use Rattle.tables.proofs.TreeRows.{tree_set}
 use Rattle.tables.proofs.scoping.Scoping.set_scope_flags.Goals as goal
 
-pub invariant-of-self : goal.invariant-of-self
-invariant-of-self c =
+pub invariant_of-self : goal.invariant_of-self
+invariant_of-self c =
     let old = rows c.args.self.now.scopes in
-    (subst Tree (sym c.put.ensures.after) (tree_set old c.args.id.0 _ c.args.self.now.tree (ap (λ (r : ScopeRow). scope_number r.parent) c.get-or-row.ensures)), tt)
+    record { tree = subst Tree (sym c.put.ensures.after) (tree_set old c.args.id.0 _ c.args.self.now.tree (ap (λ (r : ScopeRow). scope_number r.parent) c.get_or-row.ensures)) }
