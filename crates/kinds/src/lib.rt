@@ -1,4 +1,5 @@
 //! The kinds of declarations: which there are, how one is checked, and what it tells.
+#![tactic(auto)]
 
 pub mod binder;
 pub mod checked;

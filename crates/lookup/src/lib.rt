@@ -1,4 +1,5 @@
 //! Walks up the scopes: the scopes of a lookup chain, and what is bound along it.
+#![tactic(auto)]
 
 pub mod chain;
 pub mod search;

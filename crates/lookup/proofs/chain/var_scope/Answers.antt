@@ -1,6 +1,5 @@
-use Rattle.std.proofs.Common.{◌≡◌, sym, ap, ◌∙◌}
+use Rattle.std.proofs.Common.{sym, ◌∙◌}
 use Rattle.tables.specs.Contents.{contents}
-use Rattle.model.specs.Basics.{scope_number}
 use Rattle.model.proofs.Walks.{target_here, target_up, target_top}
 use Rattle.lookup.proofs.chain.var_scope.Goals as goal
 
@@ -10,14 +9,14 @@ climb-smaller c = c.args.scoping.now.tree _ _ (sym c.in-Some.ensures)
 pub climb-preserved : goal.climb-preserved
 climb-preserved c =
     let t = c.args.scoping.now in
-    sym (target_up (contents t).scopes t.tree c.climb.at.0 c.in-Some.above.0 (sym c.is_var.ensures ∙ c.if-is-var.false) (sym c.in-Some.ensures)) ∙ c.climb.invariant
+    sym (target_up (contents t).scopes t.tree c.climb.at.0 c.in-Some.above.0 (sym c.is_var.ensures ∙ c.if-is_var.false) (sym c.in-Some.ensures)) ∙ c.climb.invariant
 
-pub returns-in-default : goal.returns-in-default
-returns-in-default c =
+pub returns-in_default : goal.returns-in_default
+returns-in_default c =
     let t = c.args.scoping.now in
-    sym (target_top (contents t).scopes t.tree c.climb.at.0 (sym c.is_var.ensures ∙ c.if-is-var.false) (sym c.in-default.ensures)) ∙ c.climb.invariant
+    sym (target_top (contents t).scopes t.tree c.climb.at.0 (sym c.is_var.ensures ∙ c.if-is_var.false) (sym c.in_default.ensures)) ∙ c.climb.invariant
 
-pub returns-then-is-var : goal.returns-then-is-var
-returns-then-is-var c =
+pub returns-then-is_var : goal.returns-then-is_var
+returns-then-is_var c =
     let t = c.args.scoping.now in
-    sym (target_here (contents t).scopes t.tree c.climb.at.0 (sym c.is_var.ensures ∙ c.if-is-var.true)) ∙ c.climb.invariant
+    sym (target_here (contents t).scopes t.tree c.climb.at.0 (sym c.is_var.ensures ∙ c.if-is_var.true)) ∙ c.climb.invariant

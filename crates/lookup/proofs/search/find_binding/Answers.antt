@@ -1,4 +1,4 @@
-use Rattle.std.proofs.Common.{◌≡◌, sym, ap, ◌∙◌, arith}
+use Rattle.std.proofs.Common.{sym, arith}
 use Rattle.std.proofs.lemmas.Bool.Decides.{nat_tests}
 use Rattle.tables.specs.Contents.{contents}
 use Rattle.model.proofs.Chains.{at_chain, at_chain_more, at_chain_top}
@@ -12,11 +12,11 @@ returns-in-Some g c =
     let r = at_chain (contents t).scopes t.tree (first_binding (g.B.PairSet.pairs c.args.bindings.now) c.args.name.0) c.climb.at.0 in
     grind (arith, nat_tests)
 
-pub returns-in-default-parent : goal.returns-in-default-parent
-returns-in-default-parent g c =
+pub returns-in_default-parent : goal.returns-in_default-parent
+returns-in_default-parent g c =
     let t = c.args.scoping.now in
-    let f = c.in-default.ensures in
-    let r = at_chain_top (contents t).scopes t.tree (first_binding (g.B.PairSet.pairs c.args.bindings.now) c.args.name.0) c.climb.at.0 (sym c.in-default-parent.ensures) in
+    let f = c.in_default.ensures in
+    let r = at_chain_top (contents t).scopes t.tree (first_binding (g.B.PairSet.pairs c.args.bindings.now) c.args.name.0) c.climb.at.0 (sym c.in_default-parent.ensures) in
     grind (arith, nat_tests)
 
 pub climb-smaller : goal.climb-smaller
@@ -25,6 +25,6 @@ climb-smaller g c = c.args.scoping.now.tree _ _ (sym c.in-Some-parent.ensures)
 pub climb-preserved : goal.climb-preserved
 climb-preserved g c =
     let t = c.args.scoping.now in
-    let f = c.in-default.ensures in
+    let f = c.in_default.ensures in
     let r = at_chain_more (contents t).scopes t.tree (first_binding (g.B.PairSet.pairs c.args.bindings.now) c.args.name.0) c.climb.at.0 c.in-Some-parent.above.0 (sym c.in-Some-parent.ensures) in
     grind (arith, nat_tests)

@@ -1,4 +1,4 @@
-use Rattle.std.proofs.Common.{◌≡◌, eqb, sym, ap, ◌∙◌, arith}
+use Rattle.std.proofs.Common.{eqb, sym, arith}
 use Rattle.std.proofs.lemmas.Bool.Decides.{nat_tests}
 use Rattle.tables.specs.Contents.{contents}
 use Rattle.model.specs.Basics.{any}
@@ -13,11 +13,11 @@ returns-then-at-here c =
     let r = at_chain (contents t).scopes t.tree (any (eqb c.args.here.0)) c.climb.at.0 in
     grind (arith, nat_tests)
 
-pub returns-in-default : goal.returns-in-default
+pub returns-in_default : goal.returns-in_default
 unfolding is_below
-returns-in-default c =
+returns-in_default c =
     let t = c.args.scoping.now in
-    let r = at_chain_top (contents t).scopes t.tree (any (eqb c.args.here.0)) c.climb.at.0 (sym c.in-default.ensures) in
+    let r = at_chain_top (contents t).scopes t.tree (any (eqb c.args.here.0)) c.climb.at.0 (sym c.in_default.ensures) in
     grind (arith, nat_tests)
 
 pub climb-smaller : goal.climb-smaller

@@ -1,4 +1,4 @@
-use Rattle.std.proofs.Common.{◌≡◌, sym, ap, ◌∙◌, arith}
+use Rattle.std.proofs.Common.{sym, arith}
 use Rattle.std.proofs.lemmas.Bool.Decides.{nat_tests}
 use Rattle.tables.specs.Contents.{contents}
 use Rattle.model.proofs.Chains.{at_chain, at_chain_more, at_chain_top}
@@ -12,25 +12,25 @@ returns-in-Some g c =
     let r = at_chain (contents t).scopes t.tree (seek (contents t).scopes (bound_names (contents t).symbols (g.B.PairSet.pairs c.args.bindings.now)) c.args.name.0 c.args.flags.0 c.args.upto) c.climb.at.0 in
     grind (arith, nat_tests)
 
-pub returns-then-ends-at : goal.returns-then-ends-at
-returns-then-ends-at g c =
+pub returns-then-ends_at : goal.returns-then-ends_at
+returns-then-ends_at g c =
     let t = c.args.scoping.now in
-    let f = c.in-default.ensures in
+    let f = c.in_default.ensures in
     let r = at_chain (contents t).scopes t.tree (seek (contents t).scopes (bound_names (contents t).symbols (g.B.PairSet.pairs c.args.bindings.now)) c.args.name.0 c.args.flags.0 c.args.upto) c.climb.at.0 in
     grind (arith, nat_tests)
 
-pub returns-then-is-last : goal.returns-then-is-last
-returns-then-is-last g c =
+pub returns-then-is_last : goal.returns-then-is_last
+returns-then-is_last g c =
     let t = c.args.scoping.now in
-    let f = c.in-default.ensures in
+    let f = c.in_default.ensures in
     let r = at_chain (contents t).scopes t.tree (seek (contents t).scopes (bound_names (contents t).symbols (g.B.PairSet.pairs c.args.bindings.now)) c.args.name.0 c.args.flags.0 c.args.upto) c.climb.at.0 in
     grind (arith, nat_tests)
 
-pub returns-in-default-parent : goal.returns-in-default-parent
-returns-in-default-parent g c =
+pub returns-in_default-parent : goal.returns-in_default-parent
+returns-in_default-parent g c =
     let t = c.args.scoping.now in
-    let f = c.in-default.ensures in
-    let r = at_chain_top (contents t).scopes t.tree (seek (contents t).scopes (bound_names (contents t).symbols (g.B.PairSet.pairs c.args.bindings.now)) c.args.name.0 c.args.flags.0 c.args.upto) c.climb.at.0 (sym c.in-default-parent.ensures) in
+    let f = c.in_default.ensures in
+    let r = at_chain_top (contents t).scopes t.tree (seek (contents t).scopes (bound_names (contents t).symbols (g.B.PairSet.pairs c.args.bindings.now)) c.args.name.0 c.args.flags.0 c.args.upto) c.climb.at.0 (sym c.in_default-parent.ensures) in
     grind (arith, nat_tests)
 
 pub climb-smaller : goal.climb-smaller
@@ -39,6 +39,6 @@ climb-smaller g c = c.args.scoping.now.tree _ _ (sym c.in-Some-parent.ensures)
 pub climb-preserved : goal.climb-preserved
 climb-preserved g c =
     let t = c.args.scoping.now in
-    let f = c.in-default.ensures in
+    let f = c.in_default.ensures in
     let r = at_chain_more (contents t).scopes t.tree (seek (contents t).scopes (bound_names (contents t).symbols (g.B.PairSet.pairs c.args.bindings.now)) c.args.name.0 c.args.flags.0 c.args.upto) c.climb.at.0 c.in-Some-parent.above.0 (sym c.in-Some-parent.ensures) in
     grind (arith, nat_tests)

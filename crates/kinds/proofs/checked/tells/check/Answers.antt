@@ -1,11 +1,10 @@
-use Rattle.std.proofs.Common.{◌≡◌, ℕ, ◌≤◌, Bool, true, false, cond, not, ◌||◌, eqb, ltb, Some, None, Option, sym, refl, ap, ◌∙◌, subst, arith}
+use Rattle.std.proofs.Common.{◌≡◌, ◌≤◌, Bool, true, false, cond, not, eqb, ltb, Some, None, Option, sym, refl, ap, ◌∙◌, arith}
 use lib.Bits.{bit_and}
 use Rattle.std.proofs.lemmas.Bool.{lt-ltb, le-ltb}
 use Rattle.tables.specs.Flags.{less}
 use Rattle.tables.specs.declared.refusal.Refusal.{Refusal}
 use Rattle.tables.specs.declared.refusal.Refusal.TheVariants.{UnknownKind, ModifierNotOfKind, SpanReversed}
 use Rattle.model.specs.Kinds.{kind_row}
-use Rattle.kinds.specs.KindNumbers.{number_of, kind_of}
 use Rattle.kinds.proofs.KindFacts.{kind_known, kind_unknown, known_test, modifiers_left, modifiers_all}
 use Rattle.kinds.proofs.checked.tells.check.Goals as goal
 
@@ -13,10 +12,10 @@ use Rattle.kinds.proofs.checked.tells.check.Goals as goal
 abbrev tests : Bool → Bool → Bool → Option Refusal
 tests a b c = cond a (Some UnknownKind) (cond b (Some ModifierNotOfKind) (cond c (Some SpanReversed) None))
 
-pub returns-in-default : goal.returns-in-default
-returns-in-default c =
+pub returns-in_default : goal.returns-in_default
+returns-in_default c =
     let d = c.args.declaration in
-    ap (λ t. tests t (not (eqb (less d.modifiers (kind_row d.kind).modifiers) 0)) (ltb d.end d.start)) (kind_unknown d.kind (sym c.in-default.ensures))
+    ap (λ t. tests t (not (eqb (less d.modifiers (kind_row d.kind).modifiers) 0)) (ltb d.end d.start)) (kind_unknown d.kind (sym c.in_default.ensures))
 
 pub returns-then-declaration-modifiers : goal.returns-then-declaration-modifiers
 returns-then-declaration-modifiers c =
@@ -29,8 +28,8 @@ returns-then-declaration-modifiers c =
     ap (λ t. tests t (not (eqb (less d.modifiers (kind_row d.kind).modifiers) 0)) (ltb d.end d.start)) (known_test d.kind range.0 range.1)
     ∙ ap (λ t. tests false t (ltb d.end d.start)) left
 
-pub returns-in-default-new : goal.returns-in-default-new
-returns-in-default-new c =
+pub returns-in_default-new : goal.returns-in_default-new
+returns-in_default-new c =
     let d = c.args.declaration in
     let k = sym c.in-Some.ensures in
     let r = kind_known d.kind in
@@ -38,7 +37,7 @@ returns-in-default-new c =
     let mods : c.modifiers.result ≡ (kind_row d.kind).modifiers = c.modifiers.ensures ∙ ap (λ n. (kind_row n).modifiers) (r.number c.in-Some.kind k) in
     let all : not (eqb (less d.modifiers (kind_row d.kind).modifiers) 0) ≡ false = modifiers_all d.modifiers (kind_row d.kind).modifiers (sym (ap (bit_and d.modifiers) mods) ∙ c.if-declaration-modifiers.false) in
     ap (λ t. tests t (not (eqb (less d.modifiers (kind_row d.kind).modifiers) 0)) (ltb d.end d.start)) (known_test d.kind range.0 range.1)
-    ∙ ap (λ t. tests false t (ltb d.end d.start)) all ∙ ap (tests false false) (lt-ltb d.end d.start c.in-default-new.ensures)
+    ∙ ap (λ t. tests false t (ltb d.end d.start)) all ∙ ap (tests false false) (lt-ltb d.end d.start c.in_default-new.ensures)
 
 pub returns : goal.returns
 returns c =
