@@ -1,8 +1,8 @@
 -- What the tables hold of the declarations so far, as long as there is no conflict.
 use Rattle.std.proofs.Common.{◌≡◌, ℕ, ◌<◌, ◌≤◌, Bool, true, false, ◌≢◌, ◌⊎◌, List, [], ◌∷◌, length, Some, sym, refl, ap, ◌∙◌, subst, inl, inr, ⊎_elim, arith, length-append, length-set, get_or-set_other, get_or-set_same}
 use lib.Bits.{bit_or}
-use lib.ListN.{get_or_append}
-use lib.Seq.{get_or_append_seam}
+use lib.ListN.{get_or-append}
+use lib.Seq.{get_or-append_seam}
 use Rattle.std.proofs.lemmas.Bool.{cases_lt, cases_eq}
 use Rattle.stores.specs.Pairs.{Pairs, put}
 use Rattle.stores.specs.Keys.{same_scope_and_name}
@@ -41,11 +41,11 @@ module _ (rows : List ScopeRow) (ds : List Granted) where
   module _ (d : Told) (nm : Names) (scope : ℕ) where
     make_old : (k : ℕ) → k < length nm.symbols → flags_of (declare_shadow_symbol d nm scope).names k ≡ flags_of nm k
     unfolding declare_shadow_symbol
-    make_old k l = ap (λ (r : SymbolRow). r.flags.0) (get_or_append nm.symbols _ no_symbol k l)
+    make_old k l = ap (λ (r : SymbolRow). r.flags.0) (get_or-append nm.symbols _ no_symbol k l)
 
     pub make_new : flags_of (declare_shadow_symbol d nm scope).names (length nm.symbols) ≡ d.includes
     unfolding declare_shadow_symbol
-    make_new = ap (λ (r : SymbolRow). r.flags.0) (get_or_append_seam nm.symbols _ [] no_symbol)
+    make_new = ap (λ (r : SymbolRow). r.flags.0) (get_or-append_seam nm.symbols _ [] no_symbol)
 
     pub make_keeps : (s n : ℕ) → Binds nm s n → Binds (declare_shadow_symbol d nm scope).names s n
     unfolding declare_shadow_symbol

@@ -1,7 +1,7 @@
 -- First fit, for every call of every run.
 use Rattle.std.proofs.Common.{◌≡◌, ℕ, suc, cond, not, ◌&&◌, eqb, ltb, ◌⊎◌, List, [], ◌∷◌, length, take, drop, Some, None, sym, refl, ap, ◌∙◌, subst, inl, inr, ⊎_elim, arith}
 use mathlib.Core.List.{Memᴰ}
-use lib.Seq.{drop_length, take_length}
+use lib.Seq.{drop-length, take-length}
 use Rattle.std.proofs.lemmas.Bool.{cond_both, true≢false, eqb-true, eq-eqb}
 use Rattle.std.proofs.lemmas.Bool.Decides.{nat_tests}
 use Rattle.std.specs.List.{AllByRecursion as All}
@@ -131,7 +131,7 @@ module _ (m : Machine) (good : Good m) (single : KeptSingle m) where
       option_cases (parent_of rows m.current) Goal
       (λ n. let root : m.current ≡ 0 = good.tree.only_root m.current good.here n in
       bool_cases (eqb start (length pending)) Goal
-      (λ t. inl (ap (λ k. drop k pending) (eqb-true start _ t) ∙ drop_length pending))
+      (λ t. inl (ap (λ k. drop k pending) (eqb-true start _ t) ∙ drop-length pending))
       (λ t. absurd (none≢some (Some AtRoot) AtRoot (sym (ap (λ b. cond (b && not (eqb start (length pending))) (Some AtRoot) (cond (ltb (length pending) start) (Some StartPastPending) None)) (eq-eqb m.current 0 root)
       ∙ ap (λ b. cond (not b) (Some AtRoot) (cond (ltb (length pending) start) (Some StartPastPending) None)) t) ∙ allowed) refl)))
       (λ p n. inr (p, n))
@@ -180,8 +180,8 @@ module _ (m : Machine) (good : Good m) (single : KeptSingle m) where
       let g : Granted m c = granted_is m c allowed in (
         g,
         after_granted m c g
-            ∙ ap (λ es. with_uses m (settle_all m.names (fate_here rows m.current parent m.names) (keep_pending m.uses (take (length pending) pending)) es)) (drop_length pending)
-            ∙ ap (λ ps. with_uses m (keep_pending m.uses ps)) (take_length pending),
+            ∙ ap (λ es. with_uses m (settle_all m.names (fate_here rows m.current parent m.names) (keep_pending m.uses (take (length pending) pending)) es)) (drop-length pending)
+            ∙ ap (λ ps. with_uses m (keep_pending m.uses ps)) (take-length pending),
       )
 
   pub first_fit_right : FirstFitRight m

@@ -1,6 +1,6 @@
 -- Flags bit by bit.
 use Rattle.std.proofs.Common.{◌≡◌, ℕ, zero, suc, ◌+◌, ◌-◌, ◌*◌, ◌/◌, ◌%◌, ◌^◌, ◌<◌, min, max, true, false, not, ◌&&◌, ◌||◌, eqb, ◌≢◌, List, [], ◌∷◌, map, sym, refl, ap, ◌∙◌, subst, ap₂, ⊎_elim, one-mul, pow-suc, div-one, arith}
-use native.Mathlib.Nat.{pow_succ', div_div_eq_div_mul, mul_mod_left}
+use native.Mathlib.Nat.{pow-succ', div-div-eq-div-mul, mul-mod_left}
 use lib.Arith.{bin_ind}
 use lib.Bits.{bit_and, bit_or, and_step, or_step, or_add_and, and_le_l, and_le_r, and_high, and_zero_r}
 use Rattle.std.proofs.lemmas.Nat.{pow_pos, pow_below, pow-add, shl-shr, div_below}
@@ -84,7 +84,7 @@ lowest : (n : ℕ) → has n (2 ^ 0) ≡ eqb (n % 2) 1
 lowest n = ap (λ x. eqb (x % 2) 1) (div-one n)
 
 pub next_digit : (n k : ℕ) → has n (2 ^ suc k) ≡ has (n / 2) (2 ^ k)
-next_digit n k = ap (λ x. eqb (n / x % 2) 1) (pow_succ' 2 k) ∙ ap (λ x. eqb (x % 2) 1) (sym (div_div_eq_div_mul n 2 (2 ^ k)))
+next_digit n k = ap (λ x. eqb (n / x % 2) 1) (pow-succ' 2 k) ∙ ap (λ x. eqb (x % 2) 1) (sym (div-div-eq-div-mul n 2 (2 ^ k)))
 
 pub nothing_has : (k : ℕ) → has 0 (2 ^ k) ≡ false
 nothing_has zero = refl
@@ -135,7 +135,7 @@ flag_has j k =
         let i = j - k - 1 in
         let f : suc i + k ≡ j = omega arith in
         let q : 2 ^ j / 2 ^ k ≡ 2 ^ suc i = ap (λ x. 2 ^ x / 2 ^ k) (sym f) ∙ ap (λ x. x / 2 ^ k) (pow-add 2 (suc i) k) ∙ shl-shr (2 ^ suc i) k in
-        let z : 2 ^ suc i % 2 ≡ 0 = ap (λ x. x % 2) (pow-suc 2 i) ∙ mul_mod_left (2 ^ i) 2 in
+        let z : 2 ^ suc i % 2 ≡ 0 = ap (λ x. x % 2) (pow-suc 2 i) ∙ mul-mod_left (2 ^ i) 2 in
         ap (λ x. eqb (x % 2) 1) q ∙ ap (λ x. eqb x 1) z ∙ sym (ne_eqb (2 ^ k) (2 ^ j) (omega arith))
 
 -- what is not nothing has a flag

@@ -3,7 +3,7 @@ use Rattle.std.proofs.Common.{◌≡◌, ℕ, ◌^◌, Bool, true, false, cond, 
 use lib.Bits.{bit_or}
 use Rattle.std.proofs.lemmas.Bool.{eqb-true, true≢false, and_parts, and_from, and_left, and_right, or_parts, or_left, or_right, or_from, or_cases, cond-true, cond-false}
 use Rattle.tables.specs.Flags.{meets, less, Read, Write, TypeUse, ValueAsType, NamespaceUse, ValueUse, ByValue, ByType, ByValueAsType, ByNamespace, Import, TypeImport, RegularEnum, ConstEnum, Class, TypeAlias, Interface, EnumMember, TypeParameter, FunctionScopedVariable, Ambient, AsyncOrGenerator}
-use Rattle.model.specs.Kinds.{Declare, Async, IfBody, Unique, excludes, kind_row}
+use Rattle.model.specs.Kinds.{Declare, Async, IfBody, Unique, kind_row}
 use Rattle.model.specs.Resolving.{can_resolve, resolved_flags}
 use Rattle.laws.specs.HasFlag.{has, has_one, among, IsFlag}
 use Rattle.laws.specs.KindNames.{function_kind, parameter_kind}

@@ -1,6 +1,6 @@
 -- Symbols stay, with their names; and how many symbols and hoisted variables a declaration adds.
 use Rattle.std.proofs.Common.{◌≡◌, ℕ, suc, ◌+◌, ◌<◌, ◌≤◌, List, [], ◌∷◌, length, is_some, refl, ap, ◌∙◌, arith, length-append, length-set}
-use lib.ListN.{get_or_append}
+use lib.ListN.{get_or-append}
 use Rattle.std.proofs.lemmas.Bool.{cond_both}
 use Rattle.tables.specs.Flags.{meets, ByValue}
 use Rattle.tables.specs.declared.row.ScopeRow.{ScopeRow}
@@ -49,7 +49,7 @@ module _ (d : Told) where
   make_grown nm scope =
       record {
         longer = simp length-append (omega arith);
-        same_names = λ k l. ap (λ (r : SymbolRow). r.name.0) (get_or_append nm.symbols _ no_symbol k l);
+        same_names = λ k l. ap (λ (r : SymbolRow). r.name.0) (get_or-append nm.symbols _ no_symbol k l);
         few_symbols = simp length-append (omega arith);
         few_hoists = omega arith;
       }

@@ -1,6 +1,6 @@
 -- Every run keeps the references in order; so the laws Once and Counts-right.
 use Rattle.std.proofs.Common.{◌≡◌, ℕ, ◌+◌, ◌<◌, ◌≤◌, true, false, cond, List, [], ◌∷◌, ◌++◌, length, get_or, Some, None, Option, sym, refl, ap, ◌∙◌, subst, ⊎_elim, append_assoc, append-nil, arith, length-append}
-use lib.ListN.{get_or_eq_default}
+use lib.ListN.{get_or-eq_default}
 use Rattle.std.proofs.lemmas.Bool.{true≢false, cases_lt}
 use Rattle.std.proofs.ByRecursion.{All-weaker}
 use Rattle.std.specs.List.{AllByRecursion as All}
@@ -125,7 +125,7 @@ module _ (names : List ℕ) (m : Machine) (o : InOrder names m) where
     row_there : r < length m.uses.references
     row_there =
         ⊎_elim (λ l. l)
-        (λ (l : length m.uses.references ≤ r). absurd (none≢some (resolved_to m.uses r) s (ap (λ (y : ReferenceRow). symbol_number y.symbol) (get_or_eq_default m.uses.references no_reference l)) e))
+        (λ (l : length m.uses.references ≤ r). absurd (none≢some (resolved_to m.uses r) s (ap (λ (y : ReferenceRow). symbol_number y.symbol) (get_or-eq_default m.uses.references no_reference l)) e))
         (cases_lt r (length m.uses.references))
 
     -- a row with a symbol is in its resolved list

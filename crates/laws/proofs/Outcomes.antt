@@ -1,6 +1,6 @@
 -- The law on conflicts and redeclarations.
 use Rattle.std.proofs.Common.{◌≡◌, ℕ, suc, true, false, cond, ◌≢◌, List, [], ◌∷◌, ◌++◌, length, set, is_some, Some, None, sym, refl, ap, ◌∙◌, subst, ⊎_elim, arith}
-use lib.Seq.{get_or_append_seam}
+use lib.Seq.{get_or-append_seam}
 use Rattle.std.proofs.lemmas.Bool.{true≢false, cond_both}
 use Rattle.stores.specs.Keys.{same_scope_and_name}
 use Rattle.tables.specs.Flags.{meets, TsConditional, VarScope}
@@ -137,7 +137,7 @@ module _ (m : Machine) (d : Declaration) where
                 (record {
                   no_conflict = refl;
                   no_redeclaration = refl;
-                  row = set_last m.names.symbols _ _ ∙ ap (λ (x : SymbolRow). m.names.symbols ++ with_scope x t ∷ []) (get_or_append_seam m.names.symbols _ [] no_symbol);
+                  row = set_last m.names.symbols _ _ ∙ ap (λ (x : SymbolRow). m.names.symbols ++ with_scope x t ∷ []) (get_or-append_seam m.names.symbols _ [] no_symbol);
                 })),
           ))
           (λ k e.

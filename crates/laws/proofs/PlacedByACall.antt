@@ -23,7 +23,7 @@ mem_drop (suc n) [] x h = h
 mem_drop (suc n) (y ∷ xs) x h = Memᴰ.tail (mem_drop n xs x h)
 
 mem_take : {X : Type 0} (n : ℕ) (xs : List X) (x : X) → x ∈ (take n xs) → x ∈ xs
-mem_take zero xs x h = absurd (Memᴰ.not_nil h)
+mem_take zero xs x h = absurd (Memᴰ.not-nil h)
 mem_take (suc n) [] x h = h
 mem_take (suc n) (y ∷ xs) x h = ⊎_elim Memᴰ.head (λ k. Memᴰ.tail (mem_take n xs x k)) (Memᴰ.cases_cons h)
 
@@ -109,8 +109,8 @@ divide (c ∷ cs) m g o Did There one h =
 pub placed_by_a_call : PlacedByACall
 placed_by_a_call setting cs =
     record {
-      resolved = λ j h. ⊎_elim (λ k. absurd (Memᴰ.not_nil k)) (λ s. s)
+      resolved = λ j h. ⊎_elim (λ k. absurd (Memᴰ.not-nil k)) (λ s. s)
           (divide cs (fresh setting) (fresh_good setting) (fresh_single setting) (λ m c. ResolvedBy m c j) (λ (us : Uses). j ∈ us.resolved) (λ m c g o k. (one_call m g o c).resolved j k) h);
-      listed = λ k h. ⊎_elim (λ l. absurd (Memᴰ.not_nil l)) (λ s. s)
+      listed = λ k h. ⊎_elim (λ l. absurd (Memᴰ.not-nil l)) (λ s. s)
           (divide cs (fresh setting) (fresh_good setting) (fresh_single setting) (λ m c. ListedBy m c k) (λ (us : Uses). k ∈ us.root) (λ m c g o l. (one_call m g o c).listed k l) h);
     }

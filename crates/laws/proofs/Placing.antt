@@ -1,7 +1,7 @@
 -- What the calls keep of the references.
 use Rattle.std.proofs.Common.{◌≡◌, ℕ, suc, ◌+◌, ◌<◌, ◌≤◌, cond, ◌⊎◌, List, [], ◌∷◌, ◌++◌, length, get_or, take, drop, Some, None, Option, sym, refl, ap, ◌∙◌, subst, inl, inr, ⊎_elim, arith, length-append, length-set, take-append-drop, get_or-set_other, get_or-set_same}
-use lib.ListN.{get_or_append, get_or_eq_default}
-use lib.Seq.{get_or_append_seam}
+use lib.ListN.{get_or-append, get_or-eq_default}
+use lib.Seq.{get_or-append_seam}
 use Rattle.std.proofs.lemmas.Bool.{cond_both, cases_eq, cases_lt}
 use Rattle.std.proofs.ByRecursion.{All-push, All-weaker, All-take, All-drop}
 use Rattle.std.specs.List.{AllByRecursion as All}
@@ -28,7 +28,7 @@ abbrev pub Named : List ℕ → ℕ → ℕ → Type 0
 Named names r n = (r < length names) × (n ≡ get_or names r 0)
 
 pub named_more : (names more : List ℕ) (r n : ℕ) → Named names r n → Named (names ++ more) r n
-named_more names more r n h = let l = h.0 in (simp length-append (omega arith), h.1 ∙ sym (get_or_append names more 0 r h.0))
+named_more names more r n h = let l = h.0 in (simp length-append (omega arith), h.1 ∙ sym (get_or-append names more 0 r h.0))
 
 -- a symbol of this name is there
 abbrev pub IsNamed : Names → ℕ → ℕ → Type 0
@@ -231,7 +231,7 @@ refer_ordered names nm us r o =
       rows = one_more ∙ ap suc o.rows ∙ sym (simp length-append (omega arith));
       pending_named = All-push _ us.pending e
           (All-weaker _ _ (λ e h. named_more names (n ∷ []) e.reference.0 e.name.0 h) us.pending o.pending_named)
-          (let r = o.rows in simp length-append (omega arith), sym (ap (λ k. get_or (names ++ n ∷ []) k 0) o.rows ∙ get_or_append_seam names n [] 0));
+          (let r = o.rows in simp length-append (omega arith), sym (ap (λ k. get_or (names ++ n ∷ []) k 0) o.rows ∙ get_or-append_seam names n [] 0));
       waiting_named = tt;
       root_named = All-weaker _ _
           (λ k h. let m = named_more names (n ∷ []) k.reference.0 _ (h.0, refl) in (m.0, subst (λ y. us.roots.get (the_name y) ≡ Some k.list) m.1 h.1))
@@ -240,7 +240,7 @@ refer_ordered names nm us r o =
       resolved_rows = All-weaker _ _ (λ j h. kept_row j.reference.0 (Some j.symbol.0) h (inl (j.symbol.0, refl))) us.resolved o.resolved_rows;
       pending_rows = All-push _ us.pending e
           (All-weaker _ _ (λ e h. kept_row e.reference.0 None h (inr refl)) us.pending o.pending_rows)
-          (ap (λ (y : ReferenceRow). symbol_number y.symbol) (get_or_append_seam us.references x [] no_reference));
+          (ap (λ (y : ReferenceRow). symbol_number y.symbol) (get_or-append_seam us.references x [] no_reference));
       waiting_rows = tt;
       root_rows = All-weaker _ _ (λ k h. kept_row k.reference.0 None h (inr refl)) us.root o.root_rows;
       resolved_there = All-weaker _ _ (λ j h. (h.0, named_more names (n ∷ []) j.reference.0 _ h.1)) us.resolved o.resolved_there;
@@ -251,14 +251,14 @@ refer_ordered names nm us r o =
     kept_row k v h c =
         let x : ReferenceRow = record { node = r.node; flags = r.flags; symbol = None } in
         ⊎_elim
-        (λ l. ap (λ (y : ReferenceRow). symbol_number y.symbol) (get_or_append us.references (x ∷ []) no_reference k l) ∙ h)
+        (λ l. ap (λ (y : ReferenceRow). symbol_number y.symbol) (get_or-append us.references (x ∷ []) no_reference k l) ∙ h)
         (λ (l : length us.references ≤ k).
-        let gone : resolved_to us k ≡ None = ap (λ (y : ReferenceRow). symbol_number y.symbol) (get_or_eq_default us.references no_reference l) in
+        let gone : resolved_to us k ≡ None = ap (λ (y : ReferenceRow). symbol_number y.symbol) (get_or-eq_default us.references no_reference l) in
         ⊎_elim
         (λ s. absurd (none≢some v s.0 (sym h ∙ gone) s.1))
         (λ (n : v ≡ None). ⊎_elim
-        (λ (q : k ≡ length us.references). ap (λ i. resolved_to (refer r us) i) q ∙ ap (λ (y : ReferenceRow). symbol_number y.symbol) (get_or_append_seam us.references x [] no_reference) ∙ sym n)
-        (λ (q : k ≡ length us.references → ⊥). (let m : length (us.references ++ x ∷ []) ≤ k = simp length-append (omega arith) in ap (λ (y : ReferenceRow). symbol_number y.symbol) (get_or_eq_default (us.references ++ x ∷ []) no_reference m)) ∙ sym n)
+        (λ (q : k ≡ length us.references). ap (λ i. resolved_to (refer r us) i) q ∙ ap (λ (y : ReferenceRow). symbol_number y.symbol) (get_or-append_seam us.references x [] no_reference) ∙ sym n)
+        (λ (q : k ≡ length us.references → ⊥). (let m : length (us.references ++ x ∷ []) ≤ k = simp length-append (omega arith) in ap (λ (y : ReferenceRow). symbol_number y.symbol) (get_or-eq_default (us.references ++ x ∷ []) no_reference m)) ∙ sym n)
         (cases_eq k (length us.references)))
         c)
         (cases_lt k (length us.references))

@@ -60,7 +60,7 @@ module _ (m : Machine) (Looks : ℕ → Type 0) where
   -- each that is resolved comes from an entry, and so with the others
   pub resolved_from : {us : Uses} {es ps : List UnresolvedReference} {js : List ResolvedReference} {ks : List RootReference}
       → Settled m Looks us es ps js ks → (j : ResolvedReference) → j ∈ js → (e : UnresolvedReference) × (e ∈ es) × ResolvedAs m Looks us e j
-  resolved_from no_more j h = absurd (Memᴰ.not_nil h)
+  resolved_from no_more j h = absurd (Memᴰ.not-nil h)
   resolved_from {us = us} (resolved {e = e} a d) j h =
       ⊎_elim
       (λ q. (e, Memᴰ.head refl, subst (ResolvedAs m Looks us e) (sym q) a))
@@ -72,7 +72,7 @@ module _ (m : Machine) (Looks : ℕ → Type 0) where
 
   pub listed_from : {us : Uses} {es ps : List UnresolvedReference} {js : List ResolvedReference} {ks : List RootReference}
       → Settled m Looks us es ps js ks → (k : RootReference) → k ∈ ks → (e : UnresolvedReference) × (e ∈ es) × RootListedAs m Looks us e k
-  listed_from no_more k h = absurd (Memᴰ.not_nil h)
+  listed_from no_more k h = absurd (Memᴰ.not-nil h)
   listed_from {us = us} (root_listed {e = e} a d) k h =
       ⊎_elim
       (λ q. (e, Memᴰ.head refl, subst (RootListedAs m Looks us e) (sym q) a))
@@ -84,7 +84,7 @@ module _ (m : Machine) (Looks : ℕ → Type 0) where
 
   pub left_from : {us : Uses} {es ps : List UnresolvedReference} {js : List ResolvedReference} {ks : List RootReference}
       → Settled m Looks us es ps js ks → (p : UnresolvedReference) → p ∈ ps → (e : UnresolvedReference) × (e ∈ es) × ((p ≡ e) ⊎ DeferredAs m e p)
-  left_from no_more p h = absurd (Memᴰ.not_nil h)
+  left_from no_more p h = absurd (Memᴰ.not-nil h)
   left_from (resolved a d) p h = let r = left_from d p h in (r.0, Memᴰ.tail r.1, r.2)
   left_from (root_listed a d) p h = let r = left_from d p h in (r.0, Memᴰ.tail r.1, r.2)
   left_from (outside {e = e} a d) p h =
@@ -198,7 +198,7 @@ module _ (m : Machine) (Looks : ℕ → Type 0) where
           other_rows = λ r n. refl;
           same_count = refl;
           lists_stay = λ n k e. e;
-          none_left = λ p k. absurd (Memᴰ.not_nil k);
+          none_left = λ p k. absurd (Memᴰ.not-nil k);
         }
     walk (e ∷ es) us o h rights =
         let f = fate us e in

@@ -24,7 +24,7 @@ times_head col r x xs h = ap (λ n. n + times col r xs) (ap (one r) h ∙ one_he
 
 -- what is there is counted
 pub times_there : {X : Type 0} (col : X → ℕ) (r : ℕ) (xs : List X) (x : X) → x ∈ xs → col x ≡ r → 1 ≤ times col r xs
-times_there col r [] x h e = absurd (Memᴰ.not_nil h)
+times_there col r [] x h e = absurd (Memᴰ.not-nil h)
 times_there col r (y ∷ xs) x h e =
     ⊎_elim
     (λ q. let a = times_head col r y xs (ap col (sym q) ∙ e) in omega arith)
@@ -33,7 +33,7 @@ times_there col r (y ∷ xs) x h e =
 
 -- two that are counted once are one
 pub times_same : {X : Type 0} (col : X → ℕ) (r : ℕ) (xs : List X) (x y : X) → times col r xs ≤ 1 → x ∈ xs → y ∈ xs → col x ≡ r → col y ≡ r → x ≡ y
-times_same col r [] x y l h k p q = absurd (Memᴰ.not_nil h)
+times_same col r [] x y l h k p q = absurd (Memᴰ.not-nil h)
 times_same col r (z ∷ xs) x y l h k p q =
     ⊎_elim
     (λ (a : x ≡ z). ⊎_elim

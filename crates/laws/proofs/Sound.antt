@@ -1,7 +1,7 @@
 -- What declarations keep: bindings lead to symbols of their name and scope, and where a name was hoisted from, the nearest var scope binds it.
 use Rattle.std.proofs.Common.{◌≡◌, ℕ, suc, pred, ◌<◌, ◌≤◌, true, false, cond, ◌≢◌, ◌⊎◌, List, [], ◌∷◌, length, is_some, Some, None, sym, refl, ap, ◌∙◌, subst, inl, inr, ⊎_elim, arith, length-append, length-set, get_or-set_other, get_or-set_same}
-use lib.ListN.{get_or_append}
-use lib.Seq.{get_or_append_seam}
+use lib.ListN.{get_or-append}
+use lib.Seq.{get_or-append_seam}
 use Rattle.std.proofs.lemmas.Bool.{true≢false, cond_both}
 use Rattle.std.specs.List.{AllByRecursion as All}
 use Rattle.tables.specs.Flags.{meets, ByValue, FunctionExpression}
@@ -89,7 +89,7 @@ module _ (rows : List ScopeRow) where
               (λ t.
               let kk : length nm.symbols ≡ k = some_inj _ _ (sym (cond_is_true (same_scope_and_name (place a n) (place scope d.name)) _ _ t) ∙ e) in
               let an = same_true a scope n d.name t in
-              let row = get_or_append_seam nm.symbols (record { name = the_name d.name; start = d.start; end = d.end; flags = symbol_flags d.includes; scope = the_scope scope; node = the_node d.node }) [] no_symbol in
+              let row = get_or-append_seam nm.symbols (record { name = the_name d.name; start = d.start; end = d.end; flags = symbol_flags d.includes; scope = the_scope scope; node = the_node d.node }) [] no_symbol in
               record {
                 there = simp length-append (omega arith);
                 its_name = ap (λ j. (symbol_row (declare_shadow_symbol d nm scope).names j).name.0) (sym kk) ∙ ap (λ (r : SymbolRow). r.name.0) row ∙ sym an.1;
@@ -97,7 +97,7 @@ module _ (rows : List ScopeRow) where
               })
               (λ t.
               let i = h.leads a n k (sym (cond_is_false (same_scope_and_name (place a n) (place scope d.name)) _ _ t) ∙ e) in
-              let row = get_or_append nm.symbols (record { name = the_name d.name; start = d.start; end = d.end; flags = symbol_flags d.includes; scope = the_scope scope; node = the_node d.node } ∷ []) no_symbol k i.there in
+              let row = get_or-append nm.symbols (record { name = the_name d.name; start = d.start; end = d.end; flags = symbol_flags d.includes; scope = the_scope scope; node = the_node d.node } ∷ []) no_symbol k i.there in
               record {
                 there = let l = i.there in simp length-append (omega arith);
                 its_name = ap (λ (r : SymbolRow). r.name.0) row ∙ i.its_name;

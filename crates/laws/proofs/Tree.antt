@@ -1,7 +1,7 @@
 -- Scopes, and what lies on their chains.
-use Rattle.std.proofs.Common.{◌≡◌, ℕ, zero, suc, ◌+◌, ◌<◌, ◌≤◌, true, false, cond, ◌≢◌, ◌⊎◌, List, [], ◌∷◌, ◌++◌, length, set, Some, None, Option, sym, refl, ap, ◌∙◌, subst, ⊎_elim, not-suc-le-zero, arith, length-append, length-set}
-use lib.ListN.{get_or_append}
-use lib.Seq.{get_or_append_seam}
+use Rattle.std.proofs.Common.{◌≡◌, ℕ, zero, suc, ◌<◌, ◌≤◌, true, false, cond, List, [], ◌∷◌, ◌++◌, length, set, Some, None, Option, sym, refl, ap, ◌∙◌, subst, ⊎_elim, not-suc-le-zero, arith, length-append, length-set}
+use lib.ListN.{get_or-append}
+use lib.Seq.{get_or-append_seam}
 use Rattle.std.proofs.lemmas.Bool.{true≢false, cases_lt}
 use Rattle.std.specs.List.{AllByRecursion as All}
 use Rattle.tables.specs.Flags.{meets, VarScope}
@@ -85,8 +85,8 @@ module _ (rows : List ScopeRow) (x : ScopeRow) where
   pub kept_push : Kept rows (rows ++ x ∷ [])
   kept_push =
       record {
-        parents = λ s h. ap (λ (r : ScopeRow). scope_number r.parent) (get_or_append rows (x ∷ []) no_scope s h);
-        vars = λ s h. ap (λ (r : ScopeRow). meets r.flags.0 VarScope) (get_or_append rows (x ∷ []) no_scope s h);
+        parents = λ s h. ap (λ (r : ScopeRow). scope_number r.parent) (get_or-append rows (x ∷ []) no_scope s h);
+        vars = λ s h. ap (λ (r : ScopeRow). meets r.flags.0 VarScope) (get_or-append rows (x ∷ []) no_scope s h);
         grown = simp length-append (omega arith);
       }
 
@@ -96,7 +96,7 @@ module _ (rows : List ScopeRow) (x : ScopeRow) where
         lower = tree_rows.tree_push rows x tree.lower (λ p q. subst (λ n. n < length rows) (some_inj c p (sym e ∙ q)) h);
         only_root = λ s l q. ⊎_elim (λ k. tree.only_root s k (sym (kept_push.parents s k) ∙ q))
             (λ (k : length rows ≤ s). let z : s ≡ length rows = omega (arith, simp length-append at l) in
-            absurd (none≢some (scope_number x.parent) c (sym (ap (λ n. parent_of (rows ++ x ∷ []) n) z ∙ ap (λ (r : ScopeRow). scope_number r.parent) (get_or_append_seam rows x [] no_scope)) ∙ q) e))
+            absurd (none≢some (scope_number x.parent) c (sym (ap (λ n. parent_of (rows ++ x ∷ []) n) z ∙ ap (λ (r : ScopeRow). scope_number r.parent) (get_or-append_seam rows x [] no_scope)) ∙ q) e))
             (cases_lt s (length rows));
         top = kept_push.vars 0 tree.there ∙ tree.top;
         there = simp length-append (omega arith);

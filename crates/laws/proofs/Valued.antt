@@ -1,8 +1,8 @@
 -- A name that only values were declared under: each symbol of that name is one that a reference to a value can resolve to.
 use Rattle.std.proofs.Common.{◌≡◌, ℕ, zero, suc, ◌<◌, ◌≤◌, true, cond, List, [], ◌∷◌, ◌++◌, length, get_or, take, drop, set, is_some, sym, refl, ap, ◌∙◌, subst, ⊎_elim, arith, length-append, length-set, get_or-set_other, get_or-set_same}
 use lib.Bits.{bit_or}
-use lib.ListN.{get_or_append}
-use lib.Seq.{get_or_append_seam}
+use lib.ListN.{get_or-append}
+use lib.Seq.{get_or-append_seam}
 use Rattle.std.proofs.lemmas.Bool.{cond_both, cases_eq, cases_lt}
 use Rattle.std.specs.List.{AllByRecursion as All}
 use Rattle.tables.specs.Flags.{meets, ByValue, Ambient, AsyncOrGenerator}
@@ -65,11 +65,11 @@ module _ (name : ℕ) where
         record {
           by_value = λ k l q. ⊎_elim
               (λ (b : k < length nm.symbols).
-              let at : get_or rows k no_symbol ≡ symbol_row nm k = get_or_append nm.symbols (new ∷ []) no_symbol k b in
+              let at : get_or rows k no_symbol ≡ symbol_row nm k = get_or-append nm.symbols (new ∷ []) no_symbol k b in
               ap (λ (x : SymbolRow). meets x.flags.0 ByValue) at ∙ v.by_value k b (sym (ap (λ (x : SymbolRow). x.name.0) at) ∙ q))
               (λ (b : length nm.symbols ≤ k).
               let z : k ≡ length nm.symbols = omega (arith, simp length-append at l) in
-              let at : get_or rows k no_symbol ≡ new = ap (λ i. get_or rows i no_symbol) z ∙ get_or_append_seam nm.symbols new [] no_symbol in
+              let at : get_or rows k no_symbol ≡ new = ap (λ i. get_or rows i no_symbol) z ∙ get_or-append_seam nm.symbols new [] no_symbol in
               ap (λ (x : SymbolRow). meets x.flags.0 ByValue) at ∙ gives (sym (ap (λ (x : SymbolRow). x.name.0) at) ∙ q))
               (cases_lt k (length nm.symbols));
         }

@@ -1,6 +1,6 @@
 -- Lists with one more at the end, and the ways of vars.
 use Rattle.std.proofs.Common.{◌≡◌, ℕ, zero, suc, ◌<◌, ◌≤◌, true, ◌⊎◌, List, [], ◌∷◌, ◌++◌, length, Some, sym, refl, ap, ◌∙◌, subst, inl, inr, ⊎_elim, not-suc-le-zero, arith}
-use lib.ListN.{get_or_eq_default}
+use lib.ListN.{get_or-eq_default}
 use Rattle.std.proofs.lemmas.Bool.{true≢false, cases_lt}
 use Rattle.tables.specs.Flags.{meets, VarScope}
 use Rattle.tables.specs.declared.row.ScopeRow.{ScopeRow}
@@ -53,7 +53,7 @@ module _ (rows : List ScopeRow) where
   pub var_inside : (s : ℕ) → is_var rows s ≡ true → s < length rows
   var_inside s v =
       ⊎_elim (λ l. l)
-      (λ (l : length rows ≤ s). absurd (true≢false (sym v ∙ ap (λ (r : ScopeRow). meets r.flags.0 VarScope) (get_or_eq_default rows no_scope l))))
+      (λ (l : length rows ≤ s). absurd (true≢false (sym v ∙ ap (λ (r : ScopeRow). meets r.flags.0 VarScope) (get_or-eq_default rows no_scope l))))
       (cases_lt s (length rows))
 
   module _ (tree : Tree rows) where

@@ -1,5 +1,5 @@
 -- Bindings: every binding leads to a symbol of its name and its scope, and no symbol has two bindings.
-use Rattle.std.specs.Prelude.{◌≡◌, ℕ, ◌<◌, ◌≤◌, List, length, Some}
+use Rattle.std.specs.Prelude.{◌≡◌, ℕ, ◌<◌, List, length, Some}
 use Rattle.model.specs.declared.call.Call.{Call}
 use Rattle.model.specs.State.{Names, fresh, symbol_row}
 use Rattle.model.specs.Declaring.{binding}

@@ -1,4 +1,5 @@
 //! The laws over runs of the reference machine. Each theorem is the contract of a small function, so that the check asks for its proof.
+#![tactic(auto)]
 
 pub mod bindings;
 pub mod conflicts;
