@@ -6,5 +6,5 @@ use Rattle.hash_store.proofs.probe.find.Given as goal
 abbrev pub invariant-loop-step : goal.invariant-loop-step
 invariant-loop-step g l =
     (l.at < length l.slots)
-    × (l.at ≡ spot (length l.slots) (g.K.Key.hash l.key % length l.slots) l.-step)
-    × ((s : ℕ) → s < l.-step → matches g.K.Key.same (g.K.Key.hash l.key) l.key (get_or l.slots (spot (length l.slots) (g.K.Key.hash l.key % length l.slots) s) Empty) ≡ false)
+    × (l.at ≡ spot (length l.slots) (g.K.Key.hash l.key % length l.slots) l._step)
+    × ((s : ℕ) → s < l._step → matches g.K.Key.same (g.K.Key.hash l.key) l.key (get_or l.slots (spot (length l.slots) (g.K.Key.hash l.key % length l.slots) s) Empty) ≡ false)

@@ -6,5 +6,5 @@ use Rattle.hash_store.proofs.probe.vacant.Given as goal
 abbrev pub invariant-loop-turn : goal.invariant-loop-turn
 invariant-loop-turn g l =
     (l.at < length l.slots)
-    × (l.at ≡ spot (length l.slots) (l.hash % length l.slots) l.-turn)
-    × ((s : ℕ) → s < l.-turn → is_full (get_or l.slots (spot (length l.slots) (l.hash % length l.slots) s) Empty) ≡ true)
+    × (l.at ≡ spot (length l.slots) (l.hash % length l.slots) l._turn)
+    × ((s : ℕ) → s < l._turn → is_full (get_or l.slots (spot (length l.slots) (l.hash % length l.slots) s) Empty) ≡ true)

@@ -5,19 +5,19 @@ use Rattle.list_store.specs.Found.{Missing}
 use Rattle.list_store.proofs.Entries.{hit_made}
 use Rattle.list_store.proofs.place.place_of.Goals as goal
 
-pub returns-then-same-as : goal.returns-then-same-as
-returns-then-same-as g c =
+pub returns-then-same_as : goal.returns-then-same_as
+returns-then-same_as g c =
     let x = c.index-entries-i in
     record {
       within = c.loop-i-test.true;
-      place = hit_made g.K.Key.same c.args.key x.result c.args.entries.now c.loop-i.i c.loop-i-test.true x.is c.loop-i.invariant (sym c.if-same-as.ensures);
+      place = hit_made g.K.Key.same c.args.key x.result c.args.entries.now c.loop-i.i c.loop-i-test.true x.is c.loop-i.invariant (sym c.if-same_as.ensures);
     }
 
 pub loop-i-preserved : goal.loop-i-preserved
 loop-i-preserved g c =
     let x = c.index-entries-i in
     All-more (λ y. g.K.Key.same c.args.key y.key ≡ false) c.args.entries.now c.loop-i.i x.result c.loop-i-test.true c.loop-i.invariant
-    (ap (λ y. g.K.Key.same c.args.key y.key) (sym x.is) ∙ sym c.if-same-as.ensures)
+    (ap (λ y. g.K.Key.same c.args.key y.key) (sym x.is) ∙ sym c.if-same_as.ensures)
 
 pub returns : goal.returns
 returns g c =

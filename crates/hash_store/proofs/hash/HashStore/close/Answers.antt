@@ -7,17 +7,17 @@ use Rattle.hash_store.proofs.Kept.{taken_some, taken_less, taken_same, settled_s
 use Rattle.hash_store.proofs.Moved.{moved_length, moved_taken, moved_settled, moved_unlike, moved_strain, moved_hashed, moved_free, emptied_settled, emptied_hashed}
 use Rattle.hash_store.proofs.hash.HashStore.close.Goals as goal
 
-pub offset-bounds-self-at : goal.offset-bounds-self-at
-offset-bounds-self-at g c = let h : c.in-Some.at < length c.args.self.now.slots.now = omega (arith, c.in-Some.ensures.within, c.loop-at.invariant.0) in search rules
+pub offset_bounds-self-at : goal.offset_bounds-self-at
+offset_bounds-self-at g c = let h : c.in-Some.at < length c.args.self.now.slots.now = omega (arith, c.in-Some.ensures.within, c.loop-at.invariant.0) in search rules
 
-pub offset-bounds-self-at-in-Some : goal.offset-bounds-self-at-in-Some
-offset-bounds-self-at-in-Some g c = let h : c.in-Some.at < length c.args.self.now.slots.now = omega (arith, c.in-Some.ensures.within, c.loop-at.invariant.0) in search rules
+pub offset_bounds-self-at-in-Some : goal.offset_bounds-self-at-in-Some
+offset_bounds-self-at-in-Some g c = let h : c.in-Some.at < length c.args.self.now.slots.now = omega (arith, c.in-Some.ensures.within, c.loop-at.invariant.0) in search rules
 
-pub overflow-sub-self : goal.overflow-sub-self
-overflow-sub-self g c = omega (arith, taken_some c.loop-at.self.slots.now c.in-Some.at c.in-Some.ensures.full)
+pub overflow_sub-self : goal.overflow_sub-self
+overflow_sub-self g c = omega (arith, taken_some c.loop-at.self.slots.now c.in-Some.at c.in-Some.ensures.full)
 
-pub invariant-of-self : goal.invariant-of-self
-invariant-of-self g c =
+pub invariant_of-self : goal.invariant_of-self
+invariant_of-self g c =
     let s = c.loop-at.self in
     let xs = s.slots.now in
     let at = c.in-Some.at in
@@ -26,11 +26,11 @@ invariant-of-self g c =
     let less = taken_less xs at Deleted t.within t.full refl in
     (omega arith, (omega arith, (settled_set xs at Deleted t.within refl (λ _ f _. absurd (both_ways false refl f)) s.settled, (unlike_set xs at Deleted t.within (λ _ _ a. a) s.different, tt))))
 
-pub offset-bounds-self-hole : goal.offset-bounds-self-hole
-offset-bounds-self-hole g c = let h : c.loop-at.hole < length c.args.self.now.slots.now = omega (arith, c.loop-at.invariant.0) in search rules
+pub offset_bounds-self-hole : goal.offset_bounds-self-hole
+offset_bounds-self-hole g c = let h : c.loop-at.hole < length c.args.self.now.slots.now = omega (arith, c.loop-at.invariant.0) in search rules
 
-pub invariant-of-self-in-Some : goal.invariant-of-self-in-Some
-invariant-of-self-in-Some g c =
+pub invariant_of-self-in-Some : goal.invariant_of-self-in-Some
+invariant_of-self-in-Some g c =
     let s = c.loop-at.self in
     let xs = s.slots.now in
     let at = c.in-Some.at in
@@ -85,15 +85,15 @@ loop-at-preserved g c =
       moved_hashed xs at hole x t.within inv.1 read is inv.2 g.K.Key.same g.K.Key.hash g.met.K.Key.exact s.different (s.count - 1 + 1) s.count count ∙ inv.3,
     )
 
-pub invariant-of-self-2 : goal.invariant-of-self-2
-invariant-of-self-2 g c =
+pub invariant_of-self-2 : goal.invariant_of-self-2
+invariant_of-self-2 g c =
     let s = c.loop-at.self in
     let xs = s.slots.now in
     let hole = c.loop-at.hole in
     let inv = c.loop-at.invariant in
     let size = length-set xs hole Empty in
     let same = taken_same xs hole Empty inv.1 inv.2 in
-    (omega arith, (omega arith, (emptied_settled xs hole inv.1 c.in-default.ensures.nearer s.settled, (unlike_set xs hole Empty inv.1 (λ _ _ a. a) s.different, tt))))
+    (omega arith, (omega arith, (emptied_settled xs hole inv.1 c.in_default.ensures.nearer s.settled, (unlike_set xs hole Empty inv.1 (λ _ _ a. a) s.different, tt))))
 
 pub returns : goal.returns
 returns g c =

@@ -6,8 +6,8 @@ use Rattle.hash_store.proofs.hash.HashStore.new.Goals as goal
 pub loop-i-preserved : goal.loop-i-preserved
 loop-i-preserved g c = unfull_more c.loop-i.slots c.loop-i.i Empty (omega arith) refl c.loop-i.invariant
 
-pub invariant-of-result : goal.invariant-of-result
-invariant-of-result g c =
+pub invariant_of-result : goal.invariant_of-result
+invariant_of-result g c =
     let xs = c.loop-i.slots in
     let none = all_unfull xs (λ j h. c.loop-i.invariant j (omega arith)) in
     (omega arith, (sym (taken_none xs (λ j _. none j)), (settled_unfull xs none, (unlike_unfull xs none, tt))))

@@ -5,7 +5,7 @@ use Rattle.hash_store.specs.declared.slot.Slot.TheVariants.{Empty, Deleted}
 use Rattle.hash_store.specs.Slots.{is_full, hashed}
 use Rattle.hash_store.proofs.Kept.{taken_some, taken_less, taken_none, taken_same, settled_set, unlike_set, unfull_taken, unfull_more, settled_unfull, unlike_unfull, hashed_unfull}
 use Rattle.hash_store.proofs.hash.methods.HashStoreStore.clear.Goals as goal
-use Rattle.hash_store.proofs.hash.methods.HashStoreStore.clear.Goals.{then-is-full, else-is-full}
+use Rattle.hash_store.proofs.hash.methods.HashStoreStore.clear.Goals.{then-is_full, else-is_full}
 
 pub returns-then-self-eq0 : goal.returns-then-self-eq0
 returns-then-self-eq0 g c =
@@ -14,23 +14,23 @@ returns-then-self-eq0 g c =
     let none : s.count ≡ 0 = omega arith in
     record { after = ap (λ n. hashed g.K.Key.same g.K.Key.hash n xs) none ∙ hashed_unfull xs (unfull_taken xs (sym s.counted ∙ none)) g.K.Key.same g.K.Key.hash; places = refl }
 
-pub offset-bounds-self-at : goal.offset-bounds-self-at
-offset-bounds-self-at g c = let h : c.loop-at.at < length c.args.self.now.slots.now = omega (arith, c.loop-i.invariant.0, c.loop-at.invariant.0) in search rules
+pub offset_bounds-self-at : goal.offset_bounds-self-at
+offset_bounds-self-at g c = let h : c.loop-at.at < length c.args.self.now.slots.now = omega (arith, c.loop-i.invariant.0, c.loop-at.invariant.0) in search rules
 
-pub overflow-sub-self : goal.overflow-sub-self
-overflow-sub-self g c =
+pub overflow_sub-self : goal.overflow_sub-self
+overflow_sub-self g c =
     let xs = c.loop-i.self.slots.now in
     let l : c.loop-i.i < length xs = omega arith in
-    let was = ap is_full (get_or_default xs c.loop-i.i Empty c.index-self-i.result l) ∙ sym c.if-is-full.ensures in
+    let was = ap is_full (get_or_default xs c.loop-i.i Empty c.index-self-i.result l) ∙ sym c.if-is_full.ensures in
     omega (arith, taken_some xs c.loop-i.i was)
 
-pub invariant-of-self : goal.invariant-of-self
-invariant-of-self g c =
+pub invariant_of-self : goal.invariant_of-self
+invariant_of-self g c =
     let s = c.loop-i.self in
     let xs = s.slots.now in
     let i = c.loop-i.i in
     let l : c.loop-i.i < length xs = omega arith in
-    let was = ap is_full (get_or_default xs i Empty c.index-self-i.result l) ∙ sym c.if-is-full.ensures in
+    let was = ap is_full (get_or_default xs i Empty c.index-self-i.result l) ∙ sym c.if-is_full.ensures in
     let size = length-set xs i Deleted in
     let less = taken_less xs i Deleted l was refl in
     (omega arith, (omega arith, (settled_set xs i Deleted l refl (λ _ f _. absurd (both_ways false refl f)) s.settled, (unlike_set xs i Deleted l (λ _ _ a. a) s.different, tt))))
@@ -42,13 +42,13 @@ loop-i-preserved g c =
     let inv = c.loop-i.invariant in
     let l : c.loop-i.i < length xs = omega arith in
     let before = inv.1 in
-    elim c.if-is-full.branch [
-      | then-is-full w ↦
+    elim c.if-is_full.branch [
+      | then-is_full w ↦
           let now = ap (λ z. z.slots.now) w.self-is in
           (ap length now ∙ length-set xs i Deleted ∙ inv.0, λ k h. ap (λ zs. is_full (get_or zs k Empty)) now ∙ unfull_more xs i Deleted l refl before k h)
-      | else-is-full w ↦
+      | else-is_full w ↦
           let now = ap (λ z. z.slots.now) w.self-is in
-          let was = ap is_full (get_or_default xs i Empty c.index-self-i.result l) ∙ sym w.if-is-full.ensures in
+          let was = ap is_full (get_or_default xs i Empty c.index-self-i.result l) ∙ sym w.if-is_full.ensures in
           (ap length now ∙ inv.0, λ k h. ap (λ zs. is_full (get_or zs k Empty)) now ∙ below_more (λ j. is_full (get_or xs j Empty) ≡ false) i before was k h)
     ]
 
@@ -58,8 +58,8 @@ loop-at-init g c =
     let z = taken_none s.slots.now (λ j h. c.loop-i.invariant.1 j (omega arith)) in
     (refl, s.counted ∙ z)
 
-pub invariant-of-self-in-loop-at : goal.invariant-of-self-in-loop-at
-invariant-of-self-in-loop-at g c =
+pub invariant_of-self-in-loop-at : goal.invariant_of-self-in-loop-at
+invariant_of-self-in-loop-at g c =
     let s = c.loop-at.self in
     let xs = s.slots.now in
     let inv = c.loop-at.invariant in

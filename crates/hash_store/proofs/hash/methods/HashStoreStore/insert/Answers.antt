@@ -9,8 +9,8 @@ use Rattle.hash_store.proofs.Slotted.{matches_full}
 use Rattle.hash_store.proofs.Kept.{taken_room, taken_all, taken_more, taken_same, only, held_here, held_none, settled_again, settled_new, unlike_new, put_again, put_new}
 use Rattle.hash_store.proofs.hash.methods.HashStoreStore.insert.Goals as goal
 
-pub invariant-of-self : goal.invariant-of-self
-invariant-of-self g c =
+pub invariant_of-self : goal.invariant_of-self
+invariant_of-self g c =
     let s = c.args.self.now in
     let xs = s.slots.now in
     let i = c.in-Some.i in
@@ -19,7 +19,7 @@ invariant-of-self g c =
     let e = g.K.Key.same in
     let hash = g.K.Key.hash in
     let m = g.met.K.Key in
-    let h = c.hash-number-hash in
+    let h = c.hash_number-hash in
     let y = Full k h.result c.args.number in
     let size = length-set xs i y in
     let still = taken_same xs i y t.within (matches_full e (hash k) k (get_or xs i Empty) t.place) in (
@@ -33,14 +33,14 @@ invariant-of-self g c =
       ),
     )
 
-pub overflow-add-self : goal.overflow-add-self
-overflow-add-self g c =
+pub overflow_add-self : goal.overflow_add-self
+overflow_add-self g c =
     let s = c.args.self.now in
     let t = c.in-Some-room.ensures in
     omega (arith, taken_room s.slots.now c.in-Some-room.i t.within t.free)
 
-pub invariant-of-self-in-Some-room : goal.invariant-of-self-in-Some-room
-invariant-of-self-in-Some-room g c =
+pub invariant_of-self-in-Some-room : goal.invariant_of-self-in-Some-room
+invariant_of-self-in-Some-room g c =
     let s = c.args.self.now in
     let xs = s.slots.now in
     let i = c.in-Some-room.i in
@@ -49,7 +49,7 @@ invariant-of-self-in-Some-room g c =
     let e = g.K.Key.same in
     let hash = g.K.Key.hash in
     let m = g.met.K.Key in
-    let h = c.hash-number-hash in
+    let h = c.hash_number-hash in
     let y = Full k h.result c.args.number in
     let size = length-set xs i y in
     let more = taken_more xs i y t.within t.free refl in (
@@ -73,7 +73,7 @@ returns-in-Some g c =
     let e = g.K.Key.same in
     let hash = g.K.Key.hash in
     let m = g.met.K.Key in
-    let h = c.hash-number-hash in
+    let h = c.hash_number-hash in
     let f : full (hashed e hash s.count xs) (length xs) k ≡ false = ap (λ o. not (is_some o) && eqb s.count (length xs)) (held_here e hash k xs i t.place (only e hash m.exact k xs i s.different t.place)) in
     record {
       answer = ap (λ b. cond b (Err StoreFull) (Ok tt)) (sym f);
@@ -93,7 +93,7 @@ returns-in-Some-room g c =
     let e = g.K.Key.same in
     let hash = g.K.Key.hash in
     let m = g.met.K.Key in
-    let h = c.hash-number-hash in
+    let h = c.hash_number-hash in
     let room = taken_room xs i t.within t.free in
     let f : full (hashed e hash s.count xs) (length xs) k ≡ false = ap (λ o. not (is_some o) && eqb s.count (length xs)) (held_none e hash k xs none) ∙ ne_eqb s.count (length xs) (λ z. omega arith) in
     record {

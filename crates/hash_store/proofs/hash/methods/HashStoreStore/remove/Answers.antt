@@ -6,14 +6,14 @@ use Rattle.hash_store.proofs.Slotted.{matches_full}
 use Rattle.hash_store.proofs.Kept.{taken_some, taken_less, settled_set, unlike_set, drop_held, drop_none}
 use Rattle.hash_store.proofs.hash.methods.HashStoreStore.remove.Goals as goal
 
-pub overflow-sub-self : goal.overflow-sub-self
-overflow-sub-self g c =
+pub overflow_sub-self : goal.overflow_sub-self
+overflow_sub-self g c =
     let s = c.args.self.now in
     let xs = s.slots.now in
     omega (arith, taken_some xs c.in-Some.i (matches_full g.K.Key.same (g.K.Key.hash c.args.key) c.args.key (get_or xs c.in-Some.i Empty) c.in-Some.ensures.place))
 
-pub invariant-of-self : goal.invariant-of-self
-invariant-of-self g c =
+pub invariant_of-self : goal.invariant_of-self
+invariant_of-self g c =
     let s = c.args.self.now in
     let xs = s.slots.now in
     let i = c.in-Some.i in
@@ -33,8 +33,8 @@ returns-in-Some g c =
       places = c.close.ensures.places ∙ length-set xs c.in-Some.i Deleted;
     }
 
-pub returns-in-default : goal.returns-in-default
-returns-in-default g c =
+pub returns-in_default : goal.returns-in_default
+returns-in_default g c =
     let s = c.args.self.now in
     let m = g.met.K.Key in
-    record { after = drop_none g.K.Key.same g.K.Key.hash m.reflexive m.symmetric m.transitive m.hashes c.args.key s.count s.slots.now c.in-default.ensures.place; places = refl }
+    record { after = drop_none g.K.Key.same g.K.Key.hash m.reflexive m.symmetric m.transitive m.hashes c.args.key s.count s.slots.now c.in_default.ensures.place; places = refl }

@@ -9,8 +9,8 @@ use Rattle.list_store.proofs.Entries.{hit_same}
 use Rattle.list_store.proofs.Listed.{apart_set, apart_push, new_key, full_hit, full_missing, put_set, put_push}
 use Rattle.list_store.proofs.list.methods.ListStoreStore.insert.Goals as goal
 
-pub invariant-of-self : goal.invariant-of-self
-invariant-of-self g c =
+pub invariant_of-self : goal.invariant_of-self
+invariant_of-self g c =
     let s = c.args.self.now in
     let xs = s.entries.now in
     let t = c.in-Some.ensures in
@@ -18,8 +18,8 @@ invariant-of-self g c =
     let key : (d : Entry g.row.K.Denot) → (get_or xs c.in-Some.i d).key ≡ c.args.key = λ d. ap (λ z. z.key) (sym (get_or-take s.count xs c.in-Some.i d t.within)) ∙ sym (g.met.K.Key.exact _ _ (hit_same g.K.Key.same c.args.key d (take s.count xs) c.in-Some.i t.place)) in
     (omega arith, (omega arith, (apart_set xs s.count c.in-Some.i c.args.key c.args.number (omega arith) key s.different, tt)))
 
-pub invariant-of-self-else-self : goal.invariant-of-self-else-self
-invariant-of-self-else-self g c =
+pub invariant_of-self-else-self : goal.invariant_of-self-else-self
+invariant_of-self-else-self g c =
     let s = c.args.self.now in
     let xs = s.entries.now in
     let same = length-set xs s.count (record { key = c.args.key; number = c.args.number }) in

@@ -7,8 +7,8 @@ use Rattle.list_store.proofs.list.methods.ListStoreStore.remove.Goals as goal
 pub loop-at-init : goal.loop-at-init
 loop-at-init g c = (refl, refl, removed_first c.args.self.now.entries.now c.in-Some.i, refl)
 
-pub invariant-of-self-in-loop-at : goal.invariant-of-self-in-loop-at
-invariant-of-self-in-loop-at g c =
+pub invariant_of-self-in-loop-at : goal.invariant_of-self-in-loop-at
+invariant_of-self-in-loop-at g c =
     let s = c.args.self.now in
     let ys = c.loop-at.self.entries.now in
     let inv = c.loop-at.invariant in
@@ -35,7 +35,7 @@ returns-after-loop-at g c =
       places = inv.0;
     }
 
-pub returns-in-default : goal.returns-in-default
-returns-in-default g c =
+pub returns-in_default : goal.returns-in_default
+returns-in_default g c =
     let s = c.args.self.now in
-    record { after = drop_missing g.K.Key.same g.met.K.Key.symmetric g.met.K.Key.transitive s.count s.entries.now c.args.key c.in-default.ensures.place; places = refl }
+    record { after = drop_missing g.K.Key.same g.met.K.Key.symmetric g.met.K.Key.transitive s.count s.entries.now c.args.key c.in_default.ensures.place; places = refl }
