@@ -15,7 +15,7 @@ use Rattle.laws.proofs.Outcomes.{conflicts_law}
 use Rattle.laws.proofs.PlacedByACall.{placed_by_a_call}
 use Rattle.laws.proofs.RefusedExactly.{refused_exactly}
 use Rattle.laws.proofs.Runs.{bindings_law}
-use Rattle.session.specs.Laws.{Equal, Lawful, Applied, KeepsLaws, Ran}
+use Rattle.session.specs.Laws.{Equal, Lawful, KeepsLaws, Ran}
 use Rattle.session.proofs.Steps.{next_state, next_answer, next_answers}
 
 equal_from : (m n : Machine) → m ≡ n → Equal m n

@@ -1,5 +1,5 @@
 -- The lines of a listing, as their bytes.
-use Rattle.std.specs.Prelude.{ℕ, List, [], ◌∷◌, ◌++◌, Some, None, codes, decimal, Option}
+use Rattle.std.specs.Prelude.{ℕ, List, ◌++◌, Some, None, codes, decimal, Option}
 use Rattle.tables.specs.Refusals.{number_of}
 use Rattle.model.specs.Basics.{scope_number, symbol_number}
 use Rattle.model.specs.declared.call.Answer.{Answer}

@@ -11,7 +11,7 @@ use Rattle.session.proofs.run.run.Goals as goal
 pub loop-call-preserved : goal.loop-call-preserved
 loop-call-preserved g c = (
   turn_state c.args.setting.bits _ (search rules) _ _ _ c.loop-call-test.true _ c.loop-call.invariant.0 _ c.apply.ensures.after,
-  c.push-reserved.ensures.items
+  c.push_reserved.ensures.items
       ∙ ap {B = List Answer} (λ front. front ++ c.apply.result ∷ []) c.loop-call.invariant.1
       ∙ turn_answers c.args.setting.bits _ (search rules) _ _ _ c.loop-call-test.true _ c.loop-call.invariant.0 _ c.apply.ensures.answer,
   omega arith,
