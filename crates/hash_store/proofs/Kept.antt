@@ -1,10 +1,10 @@
 -- What a write to a slot keeps of a hashed store's facts, and what it does to the pairs.
-use Rattle.std.proofs.Common.{◌≡◌, ℕ, zero, suc, pred, ◌+◌, ◌-◌, ◌%◌, ◌<◌, ◌≤◌, Bool, true, false, cond, not, ◌&&◌, eqb, ◌≢◌, List, [], ◌∷◌, length, get_or, set, is_some, Some, None, sym, refl, ap, ◌∙◌, subst, ap₂, inl, inr, le_of_suc-le-suc, not-suc-le-zero, add-one, sub-one, arith}
+use Rattle.std.proofs.Common.{◌≡◌, ℕ, zero, suc, pred, ◌+◌, ◌-◌, ◌%◌, ◌<◌, ◌≤◌, Bool, true, false, cond, ◌&&◌, eqb, ◌≢◌, List, [], ◌∷◌, length, get_or, set, is_some, Some, None, sym, refl, ap, ◌∙◌, subst, ap₂, inl, inr, le_of_suc-le-suc, not-suc-le-zero, add-one, sub-one, arith}
 use Rattle.std.proofs.lemmas.List.{get_or-set_same, get_or-set_other, length-set}
 use Rattle.std.proofs.lemmas.Bool.{both_ways, cases_eq, cases_order, cases_Bool, and_parts, and_from, and_right, eq-eqb, eqb-true, cond-true, cond-false}
 use Rattle.hash_store.specs.declared.slot.Slot.{Slot}
 use Rattle.hash_store.specs.declared.slot.Slot.TheVariants.{Empty, Deleted, Full}
-use Rattle.stores.specs.Pairs.{put, drop_pair, full}
+use Rattle.stores.specs.Pairs.{put, drop_pair}
 use Rattle.hash_store.specs.Slots.{is_empty, is_full, matches, number_in, hash_in, held_by, taken, taken_within, spot, steps, Settled, Alike, Unlike, hashed}
 use Rattle.stores.proofs.Bools.{same_bools}
 use Rattle.hash_store.proofs.Slotted.{full_within, matches_full, matches_hash, unfull}

@@ -1,4 +1,4 @@
-use Rattle.std.proofs.Common.{◌≡◌, ◌+◌, ◌-◌, ◌<◌, false, length, get_or, set, refl, ap, ◌∙◌, arith, rules}
+use Rattle.std.proofs.Common.{◌≡◌, ◌+◌, ◌-◌, ◌<◌, false, length, get_or, refl, ap, ◌∙◌, arith, rules}
 use Rattle.std.proofs.lemmas.List.{get_or_default, length-set}
 use Rattle.std.proofs.lemmas.Bool.{both_ways}
 use Rattle.hash_store.specs.declared.slot.Slot.TheVariants.{Empty, Deleted}
@@ -24,7 +24,7 @@ invariant_of-self g c =
     let t = c.in-Some.ensures in
     let size = length-set xs at Deleted in
     let less = taken_less xs at Deleted t.within t.full refl in
-    (omega arith, (omega arith, (settled_set xs at Deleted t.within refl (λ _ f _. absurd (both_ways false refl f)) s.settled, (unlike_set xs at Deleted t.within (λ _ _ a. a) s.different, tt))))
+    record { enough = omega arith; counted = omega arith; settled = settled_set xs at Deleted t.within refl (λ _ f _. absurd (both_ways false refl f)) s.settled; different = unlike_set xs at Deleted t.within (λ _ _ a. a) s.different }
 
 pub offset_bounds-self-hole : goal.offset_bounds-self-hole
 offset_bounds-self-hole g c = let h : c.loop-at.hole < length c.args.self.now.slots.now = omega (arith, c.loop-at.invariant.0) in search rules
@@ -44,16 +44,7 @@ invariant_of-self-in-Some g c =
     let same = moved_taken xs at hole x t.within inv.1 read is inv.2 in
     let some = taken_some xs at t.full in
     let settled = settled_set xs at Deleted t.within refl (λ _ f _. absurd (both_ways false refl f)) s.settled in
-    let unlike = unlike_set xs at Deleted t.within (λ _ _ a. a) s.different in (
-      omega arith,
-      (
-        omega arith,
-        (
-          moved_settled xs at hole x t.within inv.1 read is inv.2 t.nearer s.settled settled,
-          (moved_unlike xs at hole x t.within inv.1 read is inv.2 s.different unlike, tt),
-        ),
-      ),
-    )
+    let unlike = unlike_set xs at Deleted t.within (λ _ _ a. a) s.different in record { enough = omega arith; counted = omega arith; settled = moved_settled xs at hole x t.within inv.1 read is inv.2 t.nearer s.settled settled; different = moved_unlike xs at hole x t.within inv.1 read is inv.2 s.different unlike }
 
 pub loop-at-smaller : goal.loop-at-smaller
 loop-at-smaller g c =
@@ -93,7 +84,7 @@ invariant_of-self-2 g c =
     let inv = c.loop-at.invariant in
     let size = length-set xs hole Empty in
     let same = taken_same xs hole Empty inv.1 inv.2 in
-    (omega arith, (omega arith, (emptied_settled xs hole inv.1 c.in_default.ensures.nearer s.settled, (unlike_set xs hole Empty inv.1 (λ _ _ a. a) s.different, tt))))
+    record { enough = omega arith; counted = omega arith; settled = emptied_settled xs hole inv.1 c.in_default.ensures.nearer s.settled; different = unlike_set xs hole Empty inv.1 (λ _ _ a. a) s.different }
 
 pub returns : goal.returns
 returns g c =

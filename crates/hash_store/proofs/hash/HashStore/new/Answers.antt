@@ -10,7 +10,7 @@ pub invariant_of-result : goal.invariant_of-result
 invariant_of-result g c =
     let xs = c.loop-i.slots in
     let none = all_unfull xs (λ j h. c.loop-i.invariant j (omega arith)) in
-    (omega arith, (sym (taken_none xs (λ j _. none j)), (settled_unfull xs none, (unlike_unfull xs none, tt))))
+    record { enough = omega arith; counted = sym (taken_none xs (λ j _. none j)); settled = settled_unfull xs none; different = unlike_unfull xs none }
 
 pub returns : goal.returns
 returns g c =

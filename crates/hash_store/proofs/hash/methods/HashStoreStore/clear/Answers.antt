@@ -33,7 +33,7 @@ invariant_of-self g c =
     let was = ap is_full (get_or_default xs i Empty c.index-self-i.result l) ∙ sym c.if-is_full.ensures in
     let size = length-set xs i Deleted in
     let less = taken_less xs i Deleted l was refl in
-    (omega arith, (omega arith, (settled_set xs i Deleted l refl (λ _ f _. absurd (both_ways false refl f)) s.settled, (unlike_set xs i Deleted l (λ _ _ a. a) s.different, tt))))
+    record { enough = omega arith; counted = omega arith; settled = settled_set xs i Deleted l refl (λ _ f _. absurd (both_ways false refl f)) s.settled; different = unlike_set xs i Deleted l (λ _ _ a. a) s.different }
 
 pub loop-i-preserved : goal.loop-i-preserved
 loop-i-preserved g c =
@@ -67,7 +67,7 @@ invariant_of-self-in-loop-at g c =
     let size = length-set xs c.loop-at.at Empty in
     let same = taken_same xs c.loop-at.at Empty (omega arith) (old c.loop-at.at) in
     let none = unfull_taken (set xs c.loop-at.at Empty) (same ∙ sym s.counted ∙ inv.1) in
-    (omega arith, (omega arith, (settled_unfull (set xs c.loop-at.at Empty) none, (unlike_unfull (set xs c.loop-at.at Empty) none, tt))))
+    record { enough = omega arith; counted = omega arith; settled = settled_unfull (set xs c.loop-at.at Empty) none; different = unlike_unfull (set xs c.loop-at.at Empty) none }
 
 pub returns : goal.returns
 returns g c =

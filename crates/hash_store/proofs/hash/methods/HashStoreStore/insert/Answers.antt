@@ -1,4 +1,4 @@
-use Rattle.std.proofs.Common.{◌≡◌, true, false, cond, not, ◌&&◌, eqb, length, get_or, set, is_some, Ok, Err, sym, refl, ap, ◌∙◌, arith}
+use Rattle.std.proofs.Common.{◌≡◌, true, false, cond, not, ◌&&◌, eqb, length, get_or, is_some, Ok, Err, sym, refl, ap, ◌∙◌, arith}
 use Rattle.std.proofs.lemmas.List.{length-set}
 use Rattle.std.proofs.lemmas.Bool.{eq-eqb, ne_eqb}
 use Rattle.tables.specs.declared.refusal.Refusal.TheVariants.{StoreFull}
@@ -22,16 +22,7 @@ invariant_of-self g c =
     let h = c.hash_number-hash in
     let y = Full k h.result c.args.number in
     let size = length-set xs i y in
-    let still = taken_same xs i y t.within (matches_full e (hash k) k (get_or xs i Empty) t.place) in (
-      omega arith,
-      (
-        omega arith,
-        (
-          settled_again e hash m.reflexive m.symmetric m.transitive m.hashes k h.result c.args.number xs i h.ensures t.within t.place s.settled,
-          (unlike_new e hash m.reflexive m.symmetric m.transitive m.hashes k h.result c.args.number xs i h.ensures t.within (only e hash m.exact k xs i s.different t.place) s.different, tt),
-        ),
-      ),
-    )
+    let still = taken_same xs i y t.within (matches_full e (hash k) k (get_or xs i Empty) t.place) in record { enough = omega arith; counted = omega arith; settled = settled_again e hash m.reflexive m.symmetric m.transitive m.hashes k h.result c.args.number xs i h.ensures t.within t.place s.settled; different = unlike_new e hash m.reflexive m.symmetric m.transitive m.hashes k h.result c.args.number xs i h.ensures t.within (only e hash m.exact k xs i s.different t.place) s.different }
 
 pub overflow_add-self : goal.overflow_add-self
 overflow_add-self g c =
@@ -52,16 +43,7 @@ invariant_of-self-in-Some-room g c =
     let h = c.hash_number-hash in
     let y = Full k h.result c.args.number in
     let size = length-set xs i y in
-    let more = taken_more xs i y t.within t.free refl in (
-      omega arith,
-      (
-        omega arith,
-        (
-          settled_new e hash m.reflexive m.symmetric m.transitive m.hashes k h.result c.args.number xs i t.within t.way s.settled,
-          (unlike_new e hash m.reflexive m.symmetric m.transitive m.hashes k h.result c.args.number xs i h.ensures t.within (λ j _. c.in-None.ensures.place j) s.different, tt),
-        ),
-      ),
-    )
+    let more = taken_more xs i y t.within t.free refl in record { enough = omega arith; counted = omega arith; settled = settled_new e hash m.reflexive m.symmetric m.transitive m.hashes k h.result c.args.number xs i t.within t.way s.settled; different = unlike_new e hash m.reflexive m.symmetric m.transitive m.hashes k h.result c.args.number xs i h.ensures t.within (λ j _. c.in-None.ensures.place j) s.different }
 
 pub returns-in-Some : goal.returns-in-Some
 returns-in-Some g c =

@@ -1,4 +1,4 @@
-use Rattle.std.proofs.Common.{false, get_or, set, sym, refl, ◌∙◌, arith}
+use Rattle.std.proofs.Common.{false, get_or, refl, ◌∙◌, arith}
 use Rattle.std.proofs.lemmas.List.{length-set}
 use Rattle.std.proofs.lemmas.Bool.{both_ways}
 use Rattle.hash_store.specs.declared.slot.Slot.TheVariants.{Empty, Deleted}
@@ -20,7 +20,7 @@ invariant_of-self g c =
     let t = c.in-Some.ensures in
     let size = length-set xs i Deleted in
     let less = taken_less xs i Deleted t.within (matches_full g.K.Key.same (g.K.Key.hash c.args.key) c.args.key (get_or xs i Empty) t.place) refl in
-    (omega arith, (omega arith, (settled_set xs i Deleted t.within refl (λ _ f _. absurd (both_ways false refl f)) s.settled, (unlike_set xs i Deleted t.within (λ _ _ a. a) s.different, tt))))
+    record { enough = omega arith; counted = omega arith; settled = settled_set xs i Deleted t.within refl (λ _ f _. absurd (both_ways false refl f)) s.settled; different = unlike_set xs i Deleted t.within (λ _ _ a. a) s.different }
 
 pub returns-in-Some : goal.returns-in-Some
 returns-in-Some g c =

@@ -16,7 +16,7 @@ invariant_of-self g c =
     let t = c.in-Some.ensures in
     let same = length-set xs c.in-Some.i (record { key = c.args.key; number = c.args.number }) in
     let key : (d : Entry g.row.K.Denot) → (get_or xs c.in-Some.i d).key ≡ c.args.key = λ d. ap (λ z. z.key) (sym (get_or-take s.count xs c.in-Some.i d t.within)) ∙ sym (g.met.K.Key.exact _ _ (hit_same g.K.Key.same c.args.key d (take s.count xs) c.in-Some.i t.place)) in
-    (omega arith, (omega arith, (apart_set xs s.count c.in-Some.i c.args.key c.args.number (omega arith) key s.different, tt)))
+    record { enough = omega arith; within = omega arith; different = apart_set xs s.count c.in-Some.i c.args.key c.args.number (omega arith) key s.different }
 
 pub invariant_of-self-else-self : goal.invariant_of-self-else-self
 invariant_of-self-else-self g c =
@@ -24,7 +24,7 @@ invariant_of-self-else-self g c =
     let xs = s.entries.now in
     let same = length-set xs s.count (record { key = c.args.key; number = c.args.number }) in
     let room : s.count < length xs = omega arith in
-    (omega arith, (omega arith, (apart_push xs s.count c.args.key c.args.number room (new_key g.K.Key.same g.met.K.Key.reflexive s.count xs c.args.key s.within c.in-None.ensures.place) s.different, tt)))
+    record { enough = omega arith; within = omega arith; different = apart_push xs s.count c.args.key c.args.number room (new_key g.K.Key.same g.met.K.Key.reflexive s.count xs c.args.key s.within c.in-None.ensures.place) s.different }
 
 pub returns-in-Some : goal.returns-in-Some
 returns-in-Some g c =

@@ -1,4 +1,4 @@
-use Rattle.std.proofs.Common.{◌≡◌, ◌+◌, get_or, take, set, sym, refl, ap, ◌∙◌, arith}
+use Rattle.std.proofs.Common.{◌≡◌, ◌+◌, get_or, take, set, refl, ap, ◌∙◌, arith}
 use Rattle.std.specs.List.{remove}
 use Rattle.std.proofs.lemmas.List.{length-set}
 use Rattle.list_store.proofs.Listed.{apart_removed, removed_step, removed_first, drop_removed, drop_missing}
@@ -15,7 +15,7 @@ invariant_of-self-in-loop-at g c =
     let new = get_or ys c.loop-at.at c.index-self-at.result in
     let same = length-set ys c.loop-at.self.count new in
     let step = removed_step s.entries.now ys c.loop-at.self.count c.loop-at.at c.in-Some.i c.index-self-at.result (omega arith) (omega arith) inv.1 inv.0 inv.2 inv.3 in
-    (omega arith, (omega arith, (apart_removed s.count (c.loop-at.self.count + 1) (c.loop-at.at + 1) c.in-Some.i s.entries.now (set ys c.loop-at.self.count new) (omega arith) s.within (omega arith) (omega arith) step.0 s.different, tt)))
+    record { enough = omega arith; within = omega arith; different = apart_removed s.count (c.loop-at.self.count + 1) (c.loop-at.at + 1) c.in-Some.i s.entries.now (set ys c.loop-at.self.count new) (omega arith) s.within (omega arith) (omega arith) step.0 s.different }
 
 pub loop-at-preserved : goal.loop-at-preserved
 loop-at-preserved g c =
