@@ -1,4 +1,6 @@
 //! Both stores at both types of keys, and how many slots a look-up in the hashed store reads.
+#![tactic(auto)]
+
 use crate::exercise::Answers;
 use crate::looks::{Looks, deleted, of_absent, of_bindings};
 use crate::over::{asked_list, asked_slots, in_list, in_slots};
