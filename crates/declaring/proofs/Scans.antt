@@ -1,5 +1,5 @@
 -- How far the scan of a var has come.
-use Rattle.std.proofs.Common.{◌≡◌, ℕ, suc, ◌+◌, ◌<◌, ◌≤◌, Bool, true, false, cond, List, [], ◌∷◌, ◌++◌, length, Some, None, Option, sym, refl, ap, ◌∙◌, subst, arith}
+use Rattle.std.proofs.Common.{◌≡◌, ℕ, ◌+◌, ◌<◌, ◌≤◌, Bool, true, false, cond, List, [], ◌∷◌, ◌++◌, length, Some, None, Option, sym, refl, ap, ◌∙◌, subst, arith}
 use Rattle.std.proofs.lemmas.List.{length-append}
 use Rattle.tables.specs.Flags.{meets, ByValue}
 use Rattle.tables.specs.Contents.{Contents}
@@ -12,7 +12,7 @@ use Rattle.model.specs.State.{Names, flags_of}
 use Rattle.model.specs.Scopes.{passed, is_var, parent_of}
 use Rattle.model.specs.Declaring.{Told, Declared, found, complain, scan, with_hoisted, hoist_all, declare_symbol_on_scope}
 use Rattle.model.specs.View.{names_of, beside_names}
-use Rattle.model.proofs.Walks.{passed_here, passed_up, passed_top, passed_cons}
+use Rattle.model.proofs.Walks.{passed_here, passed_up, passed_top}
 use Rattle.declaring.specs.Scan.{Stepped, stepped, stepped_at, stops, goes_on, hoist_pairs}
 
 -- a scan that goes on from a scope, or stops there

@@ -1,4 +1,5 @@
 //! What a declaration does to the names. Its functions require the room that the call has tested.
+#![tactic(auto)]
 
 pub mod declare;
 pub mod dispatch;

@@ -1,5 +1,5 @@
 -- What resolving does to the uses, entry by entry and in whole.
-use Rattle.std.proofs.Common.{◌≡◌, ℕ, zero, suc, ◌+◌, ◌-◌, ◌<◌, ◌≤◌, Bool, true, false, cond, List, [], ◌∷◌, ◌++◌, length, take, drop, set, is_some, Some, None, Option, sym, refl, ap, ◌∙◌, subst, arith}
+use Rattle.std.proofs.Common.{◌≡◌, ℕ, suc, ◌+◌, ◌-◌, ◌<◌, ◌≤◌, Bool, true, false, cond, List, length, drop, is_some, Some, None, Option, sym, refl, ap, ◌∙◌, subst, arith}
 use Rattle.std.specs.List.{slice_get}
 use Rattle.std.proofs.lemmas.List.{length_push, length-set, length-take-le, drop_all, drop-set-lt}
 use Rattle.tables.proofs.Nths.{nth_below, drop_nth, nth_ahead, drop_ahead}
@@ -13,9 +13,8 @@ use Rattle.stores.specs.declared.key.ScopeAndName.{ScopeAndName}
 use Rattle.model.specs.Basics.{maybe, the_name}
 use Rattle.model.specs.State.{Names, Uses}
 use Rattle.model.specs.Scopes.{parent_of}
-use Rattle.model.specs.Resolving.{Fate as ModelFate, resolve_to, list_at_root, stay, with_list, deferred, keep_pending, settle, settle_all, fate_here, fate_at_end, resolve_here, resolve_end}
+use Rattle.model.specs.Resolving.{Fate as ModelFate, resolve_to, list_at_root, stay, deferred, settle, settle_all, fate_here, resolve_here, resolve_end}
 use Rattle.model.specs.Calls.{counted}
-use Rattle.model.specs.declared.call.Answer.{Answer}
 use Rattle.model.specs.declared.call.Answer.TheVariants.{Counted}
 use Rattle.model.specs.View.{names_of, uses_of, beside_uses}
 use Rattle.lookup.specs.Seeking.{bound_names}

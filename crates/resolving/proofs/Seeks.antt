@@ -1,5 +1,5 @@
 -- The search along a lookup chain, and what it says in the reference machine's words.
-use Rattle.std.proofs.Common.{◌≡◌, ℕ, Bool, true, false, cond, eqb, List, [], ◌∷◌, Some, None, Option, sym, refl, ap, ◌∙◌}
+use Rattle.std.proofs.Common.{◌≡◌, ℕ, Bool, true, false, cond, eqb, List, [], ◌∷◌, Some, None, Option, refl, ap, ◌∙◌}
 use Rattle.tables.specs.declared.id.ScopeId.{ScopeId}
 use Rattle.tables.specs.declared.row.ScopeRow.{ScopeRow}
 use Rattle.tables.specs.declared.row.UnresolvedReference.{UnresolvedReference}
@@ -12,7 +12,7 @@ use Rattle.resolving.specs.Fates.{fate_meant, fate_in, fate_by, sought_fate}
 use Rattle.lookup.specs.declared.sought.Sought.{Sought}
 use Rattle.lookup.specs.declared.sought.Sought.TheVariants.{Found, Ended, Passed}
 use Rattle.resolving.specs.declared.fate.Fate.{Fate}
-use Rattle.resolving.specs.declared.fate.Fate.TheVariants.{Resolve, ListAtRoot, Stay}
+use Rattle.resolving.specs.declared.fate.Fate.TheVariants.{Stay}
 use Rattle.resolving.specs.declared.fate.Stage.{Stage}
 use Rattle.resolving.specs.declared.fate.Stage.TheVariants.{EndOfScope, EndOfProgram}
 

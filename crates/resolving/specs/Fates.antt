@@ -1,5 +1,5 @@
 -- What becomes of a pending entry, and what that makes of the pending list.
-use Rattle.std.specs.Prelude.{◌≡◌, ℕ, ◌+◌, Bool, true, false, cond, List, [], ◌∷◌, take, Some, None, Option, slice_index_or, slice_set}
+use Rattle.std.specs.Prelude.{◌≡◌, ℕ, ◌+◌, Bool, true, cond, List, take, Some, None, Option, slice_index_or, slice_set}
 use Rattle.tables.specs.declared.id.ScopeId.{ScopeId}
 use Rattle.tables.specs.declared.id.Name.{Name}
 use Rattle.tables.specs.declared.row.ScopeRow.{ScopeRow}

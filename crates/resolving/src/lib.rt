@@ -1,4 +1,5 @@
 //! What becomes of pending references. Its functions require the room that the call has tested.
+#![tactic(auto)]
 
 pub mod fate;
 pub mod resolve;

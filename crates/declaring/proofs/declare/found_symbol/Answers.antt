@@ -1,11 +1,10 @@
-use Rattle.std.proofs.Common.{arith, rules}
-use Rattle.std.proofs.lemmas.Bool.Decides.{nat_tests}
+use Rattle.std.proofs.Common.{rules}
 use Rattle.model.specs.Declaring.{found}
 use Rattle.declaring.proofs.declare.found_symbol.Goals as goal
 
-pub returns-in-err-held-number : goal.returns-in-err-held-number
+pub returns-in_err-held_number : goal.returns-in_err-held_number
 unfolding found
-returns-in-err-held-number g c = search rules
+returns-in_err-held_number g c = search rules
 
 pub returns-then-intersects : goal.returns-then-intersects
 unfolding found

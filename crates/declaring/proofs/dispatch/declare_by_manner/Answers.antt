@@ -1,4 +1,4 @@
-use Rattle.std.proofs.Common.{◌≡◌, ℕ, Bool, List, sym, ap, ◌∙◌}
+use Rattle.std.proofs.Common.{◌≡◌, ℕ, Bool, List, ap, ◌∙◌}
 use Rattle.tables.specs.Contents.{contents}
 use Rattle.tables.specs.declared.row.ScopeRow.{ScopeRow}
 use Rattle.model.specs.declared.manner.Manner.{Manner}
@@ -26,8 +26,8 @@ returns-in-Here g c =
     let nm = names_of t0 (g.B.PairSet.pairs c.args.bindings.now) h in
     record {
       names = c.declare_symbol_on_scope.ensures.names
-          ∙ by_manner c.args.declaration c.args.typescript c.is-strict-strict.result _ c.is-var-var.result _ Here (plain c.told-d.result) t0.scopes c.args.current.0 nm
-          c.is-strict-strict.ensures c.is-var-var.ensures c.told-d.ensures c.in-Here.ensures;
+          ∙ by_manner c.args.declaration c.args.typescript c.is_strict-strict.result _ c.is_var-var.result _ Here (plain c.told-d.result) t0.scopes c.args.current.0 nm
+          c.is_strict-strict.ensures c.is_var-var.ensures c.told-d.ensures c.in-Here.ensures;
       rest = c.declare_symbol_on_scope.ensures.rest;
     }
 
@@ -39,8 +39,8 @@ returns-in-Hoisted g c =
     let nm = names_of t0 (g.B.PairSet.pairs c.args.bindings.now) h in
     record {
       names = c.declare_var.ensures.names
-          ∙ by_manner c.args.declaration c.args.typescript c.is-strict-strict.result _ c.is-var-var.result _ Hoisted (plain c.told-d.result) t0.scopes c.args.current.0 nm
-          c.is-strict-strict.ensures c.is-var-var.ensures c.told-d.ensures c.in-Hoisted.ensures;
+          ∙ by_manner c.args.declaration c.args.typescript c.is_strict-strict.result _ c.is_var-var.result _ Hoisted (plain c.told-d.result) t0.scopes c.args.current.0 nm
+          c.is_strict-strict.ensures c.is_var-var.ensures c.told-d.ensures c.in-Hoisted.ensures;
       rest = c.declare_var.ensures.rest;
     }
 
@@ -52,8 +52,8 @@ returns-in-MovedOut g c =
     let nm = names_of t0 (g.B.PairSet.pairs c.args.bindings.now) h in
     record {
       names = c.declare_moved_out.ensures.names
-          ∙ by_manner c.args.declaration c.args.typescript c.is-strict-strict.result _ c.is-var-var.result _ MovedOut (plain c.told-d.result) t0.scopes c.args.current.0 nm
-          c.is-strict-strict.ensures c.is-var-var.ensures c.told-d.ensures c.in-MovedOut.ensures;
+          ∙ by_manner c.args.declaration c.args.typescript c.is_strict-strict.result _ c.is_var-var.result _ MovedOut (plain c.told-d.result) t0.scopes c.args.current.0 nm
+          c.is_strict-strict.ensures c.is_var-var.ensures c.told-d.ensures c.in-MovedOut.ensures;
       rest = c.declare_moved_out.ensures.rest;
     }
 
@@ -65,8 +65,8 @@ returns-in-Shadow g c =
     let nm = names_of t0 (g.B.PairSet.pairs c.args.bindings.now) h in
     record {
       names = c.declare_shadow_symbol.ensures.names h
-          ∙ by_manner c.args.declaration c.args.typescript c.is-strict-strict.result _ c.is-var-var.result _ Shadow (plain c.told-d.result) t0.scopes c.args.current.0 nm
-          c.is-strict-strict.ensures c.is-var-var.ensures c.told-d.ensures c.in-Shadow.ensures;
+          ∙ by_manner c.args.declaration c.args.typescript c.is_strict-strict.result _ c.is_var-var.result _ Shadow (plain c.told-d.result) t0.scopes c.args.current.0 nm
+          c.is_strict-strict.ensures c.is_var-var.ensures c.told-d.ensures c.in-Shadow.ensures;
       rest = c.declare_shadow_symbol.ensures.rest;
     }
 
@@ -77,8 +77,8 @@ returns-in-Conditional g c =
     let h = g.H.PairSet.pairs c.args.hoisting.now in
     let nm = names_of t0 (g.B.PairSet.pairs c.args.bindings.now) h in
     record {
-      names = c.declare-symbol-on-scope-in-Conditional.ensures.names ∙ ap (declare_symbol_on_scope (plain c.told-d.result) nm) c.conditional-or-self-scope.ensures
-          ∙ by_manner c.args.declaration c.args.typescript c.is-strict-strict.result _ c.is-var-var.result _ Conditional (plain c.told-d.result) t0.scopes c.args.current.0 nm
-          c.is-strict-strict.ensures c.is-var-var.ensures c.told-d.ensures c.in-Conditional.ensures;
-      rest = c.declare-symbol-on-scope-in-Conditional.ensures.rest;
+      names = c.declare_symbol_on_scope-in-Conditional.ensures.names ∙ ap (declare_symbol_on_scope (plain c.told-d.result) nm) c.conditional_or_self-scope.ensures
+          ∙ by_manner c.args.declaration c.args.typescript c.is_strict-strict.result _ c.is_var-var.result _ Conditional (plain c.told-d.result) t0.scopes c.args.current.0 nm
+          c.is_strict-strict.ensures c.is_var-var.ensures c.told-d.ensures c.in-Conditional.ensures;
+      rest = c.declare_symbol_on_scope-in-Conditional.ensures.rest;
     }

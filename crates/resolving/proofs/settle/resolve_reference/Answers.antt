@@ -1,4 +1,4 @@
-use Rattle.std.proofs.Common.{◌≡◌, ap}
+use Rattle.std.proofs.Common.{ap}
 use Rattle.tables.specs.Contents.{contents}
 use Rattle.model.specs.View.{beside_uses}
 use Rattle.resolving.proofs.Settlings.{resolved_so, resolved_uses}
@@ -7,6 +7,6 @@ use Rattle.resolving.proofs.settle.resolve_reference.Goals as goal
 pub returns : goal.returns
 returns c =
     let old = contents c.args.scoping.now in
-    let q = resolved_so old c.args.entry c.args.symbol c.reference-or-empty-row.result c.symbol-or-empty.result c.resolved-flags-flags.result.0 _ _
-    c.reference-or-empty-row.ensures c.symbol-or-empty.ensures c.resolved-flags-flags.ensures c.set-reference.ensures.after c.add-resolved.ensures.after c.requires in
+    let q = resolved_so old c.args.entry c.args.symbol c.reference_or_empty-row.result c.symbol_or_empty.result c.resolved_flags-flags.result.0 _ _
+    c.reference_or_empty-row.ensures c.symbol_or_empty.ensures c.resolved_flags-flags.ensures c.set_reference.ensures.after c.add_resolved.ensures.after c.requires in
     record { after = resolved_uses old c.args.entry c.args.symbol _ q; rest = ap beside_uses q }

@@ -5,7 +5,7 @@ use Rattle.resolving.proofs.settle.settle_entry.Goals as goal
 pub returns-in-Resolve : goal.returns-in-Resolve
 returns-in-Resolve g c =
     settled_as _ _ _ _ _ _ _ _ _ c.in-Resolve.is
-    (settled_resolve (contents c.args.scoping.now) c.args.entry c.in-Resolve.symbol (contents c.resolve-reference.new.scoping) (g.R.PairSet.pairs c.args.roots.now) c.args.kept c.resolve-reference.ensures.after c.resolve-reference.ensures.rest)
+    (settled_resolve (contents c.args.scoping.now) c.args.entry c.in-Resolve.symbol (contents c.resolve_reference.new.scoping) (g.R.PairSet.pairs c.args.roots.now) c.args.kept c.resolve_reference.ensures.after c.resolve_reference.ensures.rest)
 
 pub returns-in-ListAtRoot : goal.returns-in-ListAtRoot
 returns-in-ListAtRoot g c =
@@ -15,4 +15,4 @@ returns-in-ListAtRoot g c =
 pub returns-in-Stay : goal.returns-in-Stay
 returns-in-Stay g c =
     settled_as _ _ _ _ _ _ _ _ _ c.in-Stay.is
-    (settled_stay (contents c.args.scoping.now) c.args.entry (contents c.set-pending.new.self) (g.R.PairSet.pairs c.args.roots.now) c.in-Stay.scope c.args.kept c.requires.there c.set-pending.ensures.after)
+    (settled_stay (contents c.args.scoping.now) c.args.entry (contents c.set_pending.new.self) (g.R.PairSet.pairs c.args.roots.now) c.in-Stay.scope c.args.kept c.requires.there c.set_pending.ensures.after)

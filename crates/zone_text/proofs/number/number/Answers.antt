@@ -8,8 +8,8 @@ value_grows : (n : ℕ) (bs : List ℕ) → n ≤ value_from n bs
 value_grows n [] = omega arith
 value_grows n (b ∷ bs) = omega (arith, value_grows (10 * n + (b - 48)) bs)
 
-pub overflow-sub-byte : goal.overflow-sub-byte
-overflow-sub-byte c =
+pub overflow_sub-byte : goal.overflow_sub-byte
+overflow_sub-byte c =
     let r = at_drop_more all_digits c.args.word.now c.loop-byte.byte-index 0 (omega arith) in grind (arith, nat_tests)
 
 pub returns-then-value-limit : goal.returns-then-value-limit

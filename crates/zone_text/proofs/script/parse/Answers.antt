@@ -22,11 +22,11 @@ module _ (n : ℕ) (s : Content) (all : List (List ℕ)) (line : List ℕ) (othe
   at_bad (Line bad) h = sym in_front ∙ ap (λ r. and_then r (λ t. with_lines (n + 1) t others)) h
   at_bad NoMemory h = tt
 
-pub returns-in-err-add-line : goal.returns-in-err-add-line
-returns-in-err-add-line c =
-    let p = err_from_is_err_and c.from-residual.result c.from-residual.ensures.1 in
+pub returns-in_err-add_line : goal.returns-in_err-add_line
+returns-in_err-add_line c =
+    let p = err_from_is_err_and c.from_residual.result c.from_residual.ensures.1 in
     let step = piece_step (separates Newline) _ _ _ c.loop-rest-test.ensures c.cut.ensures.front c.cut.ensures.back in
-    rw (p.1, p.2) (at_bad _ _ _ _ _ _ step c.loop-rest.invariant.0 _ c.in-err-add-line.ensures)
+    rw (p.1, p.2) (at_bad _ _ _ _ _ _ step c.loop-rest.invariant.0 _ c.in_err-add_line.ensures)
 
 pub loop-rest-smaller : goal.loop-rest-smaller
 loop-rest-smaller c = rest_shorter (separates Newline) _ c.cut.result.0.now _ c.loop-rest-test.ensures c.cut.ensures.front c.cut.ensures.back
@@ -35,7 +35,7 @@ pub loop-rest-preserved : goal.loop-rest-preserved
 loop-rest-preserved c =
     let less = rest_shorter (separates Newline) _ c.cut.result.0.now _ c.loop-rest-test.ensures c.cut.ensures.front c.cut.ensures.back in
     let step = piece_step (separates Newline) _ _ _ c.loop-rest-test.ensures c.cut.ensures.front c.cut.ensures.back in
-    (after_good _ _ _ _ _ _ step c.loop-rest.invariant.0 (content c.add-line.new.self) c.in-ok-add-line.ensures, omega arith)
+    (after_good _ _ _ _ _ _ step c.loop-rest.invariant.0 (content c.add_line.new.self) c.in_ok-add_line.ensures, omega arith)
 
 pub returns : goal.returns
 returns c = sym c.loop-rest.invariant.0 ∙ ap (λ l. with_lines c.loop-rest.number (content c.loop-rest.script) (lines l)) (none_is_nil _ c.loop-rest-test.ensures)

@@ -11,19 +11,19 @@ front test bs n found e h = h ∙ ap (λ k. take k bs) e ∙ take_before test bs
 back : (test : ℕ → Bool) (bs : List ℕ) (n : ℕ) (rest : List ℕ) → n ≡ length (before test bs) → rest ≡ drop n bs → drop 1 rest ≡ behind test bs
 back test bs n rest e h = ap (drop 1) (h ∙ ap (λ k. drop k bs) e) ∙ drop_before test bs
 
-pub split-at-requires : goal.split-at-requires
-split-at-requires c = omega (arith, length_before (separates c.args.separator) c.args.text.now)
+pub split_at-requires : goal.split_at-requires
+split_at-requires c = omega (arith, length_before (separates c.args.separator) c.args.text.now)
 
-pub returns-then-is-empty : goal.returns-then-is-empty
-returns-then-is-empty c =
-    let none : c.split-at.result.1.now ≡ [] = nil_from_length _ (true-eqb _ 0 c.if-is-empty.ensures) in
+pub returns-then-is_empty : goal.returns-then-is_empty
+returns-then-is_empty c =
+    let none : c.split_at.result.1.now ≡ [] = nil_from_length _ (true-eqb _ 0 c.if-is_empty.ensures) in
     record {
-      front = front _ _ _ _ c.count-before.ensures c.split-at.ensures.front;
-      back = none ∙ sym (ap (drop 1) none) ∙ back _ _ _ _ c.count-before.ensures c.split-at.ensures.back;
+      front = front _ _ _ _ c.count_before.ensures c.split_at.ensures.front;
+      back = none ∙ sym (ap (drop 1) none) ∙ back _ _ _ _ c.count_before.ensures c.split_at.ensures.back;
     }
 
-pub returns-else-is-empty : goal.returns-else-is-empty
-returns-else-is-empty c = record {
-  front = front _ _ _ _ c.count-before.ensures c.split-at.ensures.front;
-  back = take_rest c.split-at.result.1.now 1 ∙ back _ _ _ _ c.count-before.ensures c.split-at.ensures.back;
+pub returns-else-is_empty : goal.returns-else-is_empty
+returns-else-is_empty c = record {
+  front = front _ _ _ _ c.count_before.ensures c.split_at.ensures.front;
+  back = take_rest c.split_at.result.1.now 1 ∙ back _ _ _ _ c.count_before.ensures c.split_at.ensures.back;
 }
