@@ -4,7 +4,7 @@ use Rattle.model.specs.Basics.{the_scope, the_node, the_name, scope_flags, refer
 use Rattle.model.specs.declared.call.Call.TheVariants.{EnterScope, LeaveScope, Bind, DeclareReference, ResolveReferences, ResolveAllReferences}
 use Rattle.zone_text.specs.declared.operation.LineError.{LineError}
 use Rattle.zone_text.specs.declared.operation.LineError.TheVariants.{UnknownWord, TooFewNumbers, TooManyWords, NotANumber, NumberTooLarge, SettingNotFirst}
-use Rattle.zone_text.specs.declared.operation.Operation.TheVariants.{Setting, Run}
+use Rattle.zone_text.specs.declared.operation.Operation.TheVariants.{Run}
 use Rattle.zone_text.specs.declared.script.BadLine.{BadLine}
 use Rattle.zone_text.specs.Lines.{line_meaning}
 use Rattle.zone_text.specs.Scripts.{Content, nothing, text_meaning}

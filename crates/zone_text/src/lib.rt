@@ -1,4 +1,5 @@
 //! The text of an operation list: what the program `zone` reads.
+#![tactic(auto)]
 
 pub mod examples;
 pub mod line;

@@ -1,7 +1,7 @@
-use Rattle.std.proofs.Common.{◌≡◌, ℕ, ◌+◌, ◌-◌, ◌*◌, ◌≤◌, true, ◌&&◌, List, [], ◌∷◌, get_or, drop, arith}
+use Rattle.std.proofs.Common.{◌≡◌, ℕ, ◌+◌, ◌-◌, ◌*◌, ◌≤◌, List, [], ◌∷◌, get_or, drop, arith}
 use Rattle.std.proofs.lemmas.List.{at_drop_more, at_drop_all}
 use Rattle.std.proofs.lemmas.Bool.Decides.{nat_tests}
-use Rattle.zone_text.specs.Numbers.{is_digit, all_digits, value_from}
+use Rattle.zone_text.specs.Numbers.{all_digits, value_from}
 use Rattle.zone_text.proofs.number.number.Goals as goal
 
 value_grows : (n : ℕ) (bs : List ℕ) → n ≤ value_from n bs

@@ -6,7 +6,7 @@ use Rattle.zone_text.specs.declared.script.ParseError.TheVariants.{Line, NoMemor
 use Rattle.zone_text.specs.declared.separator.Separator.TheVariants.{Newline}
 use Rattle.zone_text.specs.Fields.{and_then}
 use Rattle.zone_text.specs.Pieces.{separates, lines}
-use Rattle.zone_text.specs.Scripts.{Content, content, with_line, with_lines, text_meaning, Tells}
+use Rattle.zone_text.specs.Scripts.{Content, content, with_line, with_lines, Tells}
 use Rattle.zone_text.proofs.Cutting.{none_is_nil, piece_step, rest_shorter}
 use Rattle.zone_text.proofs.script.parse.Goals as goal
 

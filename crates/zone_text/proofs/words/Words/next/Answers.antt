@@ -1,6 +1,6 @@
 use Rattle.std.proofs.Common.{◌≡◌, [], sym, refl, ap, ◌∙◌}
 use Rattle.zone_text.specs.declared.separator.Separator.TheVariants.{Space}
-use Rattle.zone_text.specs.Pieces.{separates, pieces, filled, words}
+use Rattle.zone_text.specs.Pieces.{separates, words}
 use Rattle.zone_text.proofs.Cutting.{none_is_nil, piece_step, rest_shorter, filled_step, filled_skip}
 use Rattle.zone_text.proofs.words.Words.next.Goals as goal
 

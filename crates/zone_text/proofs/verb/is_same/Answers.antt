@@ -1,7 +1,0 @@
-use Rattle.std.proofs.Common.{rules}
-use Rattle.std.proofs.lemmas.Slice.Eq.{slice_eq-Decides, bytes_eq-Decides}
-use Rattle.std.proofs.lemmas.Bool.Decides.{same_from_decides}
-use Rattle.zone_text.proofs.verb.is_same.Goals as goal
-
-pub returns : goal.returns
-returns c = same_from_decides _ _ (slice_eq-Decides _ _ _ c.eq.ensures) (bytes_eq-Decides _ _)
