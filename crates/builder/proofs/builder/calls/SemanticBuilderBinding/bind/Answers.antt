@@ -22,32 +22,32 @@ use Rattle.builder.proofs.Refusing.{refused_answer, refused_after, full_answer, 
 use Rattle.builder.proofs.Binding.{unfit_refused, fit_by_room, same_bound, same_reach, no_room_told, room_told, has_room, assemble}
 use Rattle.builder.proofs.builder.calls.SemanticBuilderBinding.bind.Goals as goal
 
-pub returns-in-err-checked : goal.returns-in-err-checked
-returns-in-err-checked g c =
+pub returns-in_err-checked : goal.returns-in_err-checked
+returns-in_err-checked g c =
     let m = view g.B.PairSet.pairs g.H.PairSet.pairs g.R.PairSet.pairs c.args.self.now in
     let d = c.args.declaration in
-    let r = c.in-err-checked.field-0.0 in
-    let e : refusal m (Bind d) ≡ Some r = unfit_refused m d r c.in-err-checked.ensures in
-    let p = err_from_is_err_and c.from-residual.result c.from-residual.ensures.1 in
+    let r = c.in_err-checked.field-0.0 in
+    let e : refusal m (Bind d) ≡ Some r = unfit_refused m d r c.in_err-checked.ensures in
+    let p = err_from_is_err_and c.from_residual.result c.from_residual.ensures.1 in
     record {
       answer = ap by_symbol p.1 ∙ ap Refused p.2 ∙ sym (refused_answer m (Bind d) r e);
       after = sym (refused_after m (Bind d) r e);
     }
 
-pub returns-in-err-check-declaration : goal.returns-in-err-check-declaration
-returns-in-err-check-declaration g c =
+pub returns-in_err-check_declaration : goal.returns-in_err-check_declaration
+returns-in_err-check_declaration g c =
     let s = c.args.self.now in
     let m = view g.B.PairSet.pairs g.H.PairSet.pairs g.R.PairSet.pairs s in
     let d = c.args.declaration in
     let t = contents s.scoping in
-    let ok = c.in-ok-checked.ensures in
-    let r = c.in-err-check-declaration.field-0.0 in
+    let ok = c.in_ok-checked.ensures in
+    let r = c.in_err-check_declaration.field-0.0 in
     let full_by : ℕ → ℕ → Bool = no_room (length t.symbols) (length t.redeclarations) (length t.conflicts) in
-    let told = no_room_told (full_by c.count.result c.reach-of-reach.result) r c.in-err-check-declaration.ensures in
-    let reach-is = c.reach-of-reach.ensures ∙ same_reach m d c.in-ok-checked.checked ok.1 in
-    let full : full_by m.names.hoisting.size (reach m d.kind) ≡ true = sym (ap (λ h. full_by h c.reach-of-reach.result) c.count.ensures ∙ ap (full_by m.names.hoisting.size) reach-is) ∙ told.0 in
+    let told = no_room_told (full_by c.count.result c.reach_of-reach.result) r c.in_err-check_declaration.ensures in
+    let reach-is = c.reach_of-reach.ensures ∙ same_reach m d c.in_ok-checked.checked ok.1 in
+    let full : full_by m.names.hoisting.size (reach m d.kind) ≡ true = sym (ap (λ h. full_by h c.reach_of-reach.result) c.count.ensures ∙ ap (full_by m.names.hoisting.size) reach-is) ∙ told.0 in
     let e : refusal m (Bind d) ≡ Some DeclarationsFull = fit_by_room m d ok.0 ∙ ap (λ b. cond b (Some DeclarationsFull) None) full in
-    let p = err_from_is_err_and c.from-residual-in-err-check-declaration.result c.from-residual-in-err-check-declaration.ensures.1 in
+    let p = err_from_is_err_and c.from_residual-in_err-check_declaration.result c.from_residual-in_err-check_declaration.ensures.1 in
     record {
       answer = ap by_symbol p.1 ∙ ap Refused (p.2 ∙ told.1) ∙ sym (refused_answer m (Bind d) DeclarationsFull e);
       after = sym (refused_after m (Bind d) DeclarationsFull e);
@@ -61,34 +61,34 @@ room_there m d k n h fit same en eh room =
     (sym (ap (λ x. no_room (length m.names.symbols) (length m.names.redeclarations) (length m.names.conflicts) x n) eh
     ∙ ap (no_room (length m.names.symbols) (length m.names.redeclarations) (length m.names.conflicts) m.names.hoisting.size) (en ∙ same_reach m d k same)) ∙ room)
 
-pub returns-then-count-ge-LEAST-CAPACITY : goal.returns-then-count-ge-LEAST-CAPACITY
-returns-then-count-ge-LEAST-CAPACITY g c =
+pub returns-then-count-ge-LEAST_CAPACITY : goal.returns-then-count-ge-LEAST_CAPACITY
+returns-then-count-ge-LEAST_CAPACITY g c =
     let s = c.args.self.now in
     let m = view g.B.PairSet.pairs g.H.PairSet.pairs g.R.PairSet.pairs s in
     let d = c.args.declaration in
-    let ok = c.in-ok-checked.ensures in
-    let e = room_there m d c.in-ok-checked.checked c.reach-of-reach.result c.count.result ok.0 ok.1 c.reach-of-reach.ensures c.count.ensures (room_told _ tt c.in-ok-check-declaration.ensures) in
-    let f : ltb m.names.bindings.size 512 ≡ false = le-ltb m.names.bindings.size 512 (let x = c.count-2.ensures in let y = c.if-count-ge-LEAST-CAPACITY.true in omega arith) in
+    let ok = c.in_ok-checked.ensures in
+    let e = room_there m d c.in_ok-checked.checked c.reach_of-reach.result c.count.result ok.0 ok.1 c.reach_of-reach.ensures c.count.ensures (room_told _ tt c.in_ok-check_declaration.ensures) in
+    let f : ltb m.names.bindings.size 512 ≡ false = le-ltb m.names.bindings.size 512 (let x = c.count-2.ensures in let y = c.if-count-ge-LEAST_CAPACITY.true in omega arith) in
     record { answer = sym (full_answer m (Bind d) e f); after = sym (full_after m (Bind d) e f) }
 
-pub invariant-of-self-2 : goal.invariant-of-self-2
-invariant-of-self-2 g c =
+pub invariant_of-self-2 : goal.invariant_of-self-2
+invariant_of-self-2 g c =
     let s = c.args.self.now in
-    subst (Kept s.current.0) (sym c.declare-by-manner.ensures.rest) (kept_of s)
+    subst (Kept s.current.0) (sym c.declare_by_manner.ensures.rest) (kept_of s)
 
-pub declare-by-manner-requires : goal.declare-by-manner-requires
-declare-by-manner-requires g c =
+pub declare_by_manner-requires : goal.declare_by_manner-requires
+declare_by_manner-requires g c =
     let s = c.args.self.now in
     let t = contents s.scoping in
-    let r = has_room (length t.symbols) (length t.redeclarations) (length t.conflicts) c.count.result c.reach-of-reach.result (room_told _ tt c.in-ok-check-declaration.ensures) in
-    let n = c.reach-of-reach.ensures in
+    let r = has_room (length t.symbols) (length t.redeclarations) (length t.conflicts) c.count.result c.reach_of-reach.result (room_told _ tt c.in_ok-check_declaration.ensures) in
+    let n = c.reach_of-reach.ensures in
     let h = c.count.ensures in
     record {
       symbols = r.for_symbol;
       redeclarations = r.for_redeclarations;
       conflicts = (let x = r.for_conflicts in omega arith);
       hoisted = (let x = r.for_hoisted in omega arith);
-      room = (let x = c.count-2.ensures in let y = c.if-count-ge-LEAST-CAPACITY.false in omega arith);
+      room = (let x = c.count-2.ensures in let y = c.if-count-ge-LEAST_CAPACITY.false in omega arith);
     }
 
 pub returns : goal.returns
@@ -98,13 +98,13 @@ returns g c =
     let m = view g.B.PairSet.pairs g.H.PairSet.pairs g.R.PairSet.pairs s in
     let d = c.args.declaration in
     let t = contents s.scoping in
-    let ok = c.in-ok-checked.ensures in
-    let e = room_there m d c.in-ok-checked.checked c.reach-of-reach.result c.count.result ok.0 ok.1 c.reach-of-reach.ensures c.count.ensures (room_told _ tt c.in-ok-check-declaration.ensures) in
-    let f : ltb m.names.bindings.size 512 ≡ true = lt-ltb m.names.bindings.size 512 (let x = c.count-2.ensures in let y = c.if-count-ge-LEAST-CAPACITY.false in omega arith) in
-    let made = c.declare-by-manner.ensures.names ∙ same_bound m d c.in-ok-checked.checked ok.1 c.is-typescript-typescript.result c.is-typescript-typescript.ensures in
+    let ok = c.in_ok-checked.ensures in
+    let e = room_there m d c.in_ok-checked.checked c.reach_of-reach.result c.count.result ok.0 ok.1 c.reach_of-reach.ensures c.count.ensures (room_told _ tt c.in_ok-check_declaration.ensures) in
+    let f : ltb m.names.bindings.size 512 ≡ true = lt-ltb m.names.bindings.size 512 (let x = c.count-2.ensures in let y = c.if-count-ge-LEAST_CAPACITY.false in omega arith) in
+    let made = c.declare_by_manner.ensures.names ∙ same_bound m d c.in_ok-checked.checked ok.1 c.is_typescript-typescript.result c.is_typescript-typescript.ensures in
     let a = assemble m.setting m.current m.uses.roots in
     record {
       answer = ap (λ (x : Declared). Symbol (the_symbol x.symbol)) made ∙ sym (granted_answers m (Bind d) e f);
-      after = ap (λ x. a x (names_of (contents c.declare-by-manner.new.scoping) (g.B.PairSet.pairs c.declare-by-manner.new.bindings) (g.H.PairSet.pairs c.declare-by-manner.new.hoisting))) c.declare-by-manner.ensures.rest
+      after = ap (λ x. a x (names_of (contents c.declare_by_manner.new.scoping) (g.B.PairSet.pairs c.declare_by_manner.new.bindings) (g.H.PairSet.pairs c.declare_by_manner.new.hoisting))) c.declare_by_manner.ensures.rest
           ∙ ap (λ (x : Declared). a (beside_names t) x.names) made ∙ sym (granted_after m (Bind d) e f);
     }

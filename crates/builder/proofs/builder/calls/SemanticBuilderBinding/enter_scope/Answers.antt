@@ -7,39 +7,39 @@ use Rattle.builder.proofs.Kept.{Kept, kept_of, kept_scopes}
 use Rattle.builder.proofs.Refusing.{scope_refused, scope_added}
 use Rattle.builder.proofs.builder.calls.SemanticBuilderBinding.enter_scope.Goals as goal
 
-pub returns-then-not-is-listed : goal.returns-then-not-is-listed
+pub returns-then-not-is_listed : goal.returns-then-not-is_listed
 unfolding builder_answer builder_after builder_refusal refusal granted granted_answer
-returns-then-not-is-listed g c = search rules
+returns-then-not-is_listed g c = search rules
 
-pub returns-in-err-id : goal.returns-in-err-id
+pub returns-in_err-id : goal.returns-in_err-id
 unfolding builder_answer builder_after builder_refusal refusal granted granted_answer
-returns-in-err-id g c =
+returns-in_err-id g c =
     let s = c.args.self.now in
     let row : ScopeRow = record { parent = Some s.current; node = c.args.scope.node; flags = c.union.result } in
-    let r = scope_refused (contents s.scoping).scopes row s.current c.in-err-id.field-0.0 refl s.here c.in-err-id.ensures.answer in
+    let r = scope_refused (contents s.scoping).scopes row s.current c.in_err-id.field-0.0 refl s.here c.in_err-id.ensures.answer in
     let reason = r.reason in
     let full = r.full in
-    let same = c.in-err-id.ensures.after ∙ ap (with_scopes (contents s.scoping)) r.same in
+    let same = c.in_err-id.ensures.after ∙ ap (with_scopes (contents s.scoping)) r.same in
     search rules
 
 pub returns : goal.returns
 unfolding builder_answer builder_after builder_refusal refusal granted granted_answer
 returns g c = search rules
 
-pub invariant-of-self : goal.invariant-of-self
-invariant-of-self g c =
+pub invariant_of-self : goal.invariant_of-self
+invariant_of-self g c =
     let s = c.args.self.now in
     let row : ScopeRow = record { parent = Some s.current; node = c.args.scope.node; flags = c.union.result } in
-    let r = scope_refused (contents s.scoping).scopes row s.current c.in-err-id.field-0.0 refl s.here c.in-err-id.ensures.answer in
-    subst (Kept s.current.0) (sym (c.in-err-id.ensures.after ∙ ap (with_scopes (contents s.scoping)) r.same)) (kept_of s)
+    let r = scope_refused (contents s.scoping).scopes row s.current c.in_err-id.field-0.0 refl s.here c.in_err-id.ensures.answer in
+    subst (Kept s.current.0) (sym (c.in_err-id.ensures.after ∙ ap (with_scopes (contents s.scoping)) r.same)) (kept_of s)
 
-pub invariant-of-self-2 : goal.invariant-of-self-2
-invariant-of-self-2 g c =
+pub invariant_of-self-2 : goal.invariant_of-self-2
+invariant_of-self-2 g c =
     let s = c.args.self.now in
     let t = contents s.scoping in
     let row : ScopeRow = record { parent = Some s.current; node = c.args.scope.node; flags = c.union.result } in
-    let a = scope_added t.scopes row s.current c.in-ok-id.id refl s.here c.in-ok-id.ensures.answer in
+    let a = scope_added t.scopes row s.current c.in_ok-id.id refl s.here c.in_ok-id.ensures.answer in
     let l = length_push t.scopes row in
     let n = a.number in
-    subst (Kept c.in-ok-id.id.0) (sym c.in-ok-id.ensures.after)
-    (kept_scopes s.current.0 c.in-ok-id.id.0 t (scopes_added t.scopes row) (kept_of s) (subst (λ xs. c.in-ok-id.id.0 < length xs) (sym a.rows) (omega arith)))
+    subst (Kept c.in_ok-id.id.0) (sym c.in_ok-id.ensures.after)
+    (kept_scopes s.current.0 c.in_ok-id.id.0 t (scopes_added t.scopes row) (kept_of s) (subst (λ xs. c.in_ok-id.id.0 < length xs) (sym a.rows) (omega arith)))

@@ -22,12 +22,12 @@ parent_there : (rows : List ScopeRow) → Tree rows → (s : ℕ) → s < length
 parent_there rows tree s h None e = omega arith
 parent_there rows tree s h (Some p) e = let l = tree s p.0 (ap scope_number e) in omega arith
 
-pub invariant-of-self : goal.invariant-of-self
-invariant-of-self g c =
+pub invariant_of-self : goal.invariant_of-self
+invariant_of-self g c =
     let s = c.args.self.now in
     let t = contents s.scoping in
-    let up = c.unwrap-or-parent.ensures ∙ ap (λ (r : ScopeRow). unwrap_or r.parent (the_scope 0)) c.scope-or-empty-left.ensures in
-    let there : c.unwrap-or-parent.result.0 < length t.scopes =
+    let up = c.unwrap_or-parent.ensures ∙ ap (λ (r : ScopeRow). unwrap_or r.parent (the_scope 0)) c.scope_or_empty-left.ensures in
+    let there : c.unwrap_or-parent.result.0 < length t.scopes =
     subst (λ (x : ScopeId). x.0 < length t.scopes) (sym up) (parent_there t.scopes s.scoping.tree s.current.0 s.here (get_or t.scopes s.current.0 no_scope).parent refl) in
-    subst (Kept c.unwrap-or-parent.result.0) (sym c.set-scope-flags.ensures.after)
-    (kept_scopes s.current.0 c.unwrap-or-parent.result.0 t (flagged t.scopes c.unwrap-or-parent.result.0 c.union-flags.result) (kept_of s) (simp length-set there))
+    subst (Kept c.unwrap_or-parent.result.0) (sym c.set_scope_flags.ensures.after)
+    (kept_scopes s.current.0 c.unwrap_or-parent.result.0 t (flagged t.scopes c.unwrap_or-parent.result.0 c.union-flags.result) (kept_of s) (simp length-set there))

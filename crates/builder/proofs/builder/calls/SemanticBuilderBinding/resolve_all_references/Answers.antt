@@ -15,22 +15,22 @@ use Rattle.builder.proofs.builder.calls.SemanticBuilderBinding.resolve_all_refer
 abbrev assemble : Machine → Contents → Uses → Machine
 assemble m c us = record { setting = m.setting; current = m.current; scopes = c.scopes; names = names_of c m.names.bindings m.names.hoisting; uses = us }
 
-pub returns-then-not-has-places : goal.returns-then-not-has-places
+pub returns-then-not-has_places : goal.returns-then-not-has_places
 unfolding builder_answer builder_after builder_refusal refusal
-returns-then-not-has-places g c = search rules
+returns-then-not-has_places g c = search rules
 
-pub resolve-all-requires : goal.resolve-all-requires
-resolve-all-requires g c =
+pub resolve_all-requires : goal.resolve_all-requires
+resolve_all-requires g c =
     let s = c.args.self.now in
     let m = view g.B.PairSet.pairs g.H.PairSet.pairs g.R.PairSet.pairs s in
-    let ok : leb (m.uses.roots.size + c.pending-count.result) 512 ≡ true = sym c.has-places.ensures ∙ c.if-not-has-places.false in
+    let ok : leb (m.uses.roots.size + c.pending_count.result) 512 ≡ true = sym c.has_places.ensures ∙ c.if-not-has_places.false in
     record {
       room = (let a = s.counted in let b = few_references s.scoping in omega arith);
-      places = (let a = leb-true (m.uses.roots.size + c.pending-count.result) 512 ok in let b = c.pending-count.ensures in omega arith);
+      places = (let a = leb-true (m.uses.roots.size + c.pending_count.result) 512 ok in let b = c.pending_count.ensures in omega arith);
     }
 
-pub invariant-of-self-2 : goal.invariant-of-self-2
-invariant-of-self-2 g c =
+pub invariant_of-self-2 : goal.invariant_of-self-2
+invariant_of-self-2 g c =
     let s = c.args.self.now in
     let m = view g.B.PairSet.pairs g.H.PairSet.pairs g.R.PairSet.pairs s in
     let k = kept_as m.uses _ _ (c.resolve_all.ensures.after m.names.hoisting) (resolve_end_keeps m.scopes m.names m.uses) in
@@ -42,7 +42,7 @@ returns g c =
     let s = c.args.self.now in
     let m = view g.B.PairSet.pairs g.H.PairSet.pairs g.R.PairSet.pairs s in
     let e = c.resolve_all.ensures.after m.names.hoisting in
-    let ok : leb (m.uses.roots.size + length m.uses.pending) 512 ≡ true = sym (c.has-places.ensures ∙ ap (λ n. leb (m.uses.roots.size + n) 512) c.pending-count.ensures) ∙ c.if-not-has-places.false in
+    let ok : leb (m.uses.roots.size + length m.uses.pending) 512 ≡ true = sym (c.has_places.ensures ∙ ap (λ n. leb (m.uses.roots.size + n) 512) c.pending_count.ensures) ∙ c.if-not-has_places.false in
     record {
       answer = c.resolve_all.ensures.answer ∙ ap (counted m.uses) e ∙ sym (granted_answers m ResolveAllReferences refl ok);
       after = ap (λ x. assemble m x (uses_of (contents c.resolve_all.new.scoping) (g.R.PairSet.pairs c.resolve_all.new.roots))) c.resolve_all.ensures.rest

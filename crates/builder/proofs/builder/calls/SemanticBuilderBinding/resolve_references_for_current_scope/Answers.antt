@@ -50,32 +50,32 @@ returns-then-start-count-2 g c =
     let n = length m.uses.pending in
     let f : (eqb m.current 0 && not (eqb c.args.start n)) ≡ false =
     elim c.else-self.branch [
-      | else-self-via-then-self+else-start-count w ↦ at_end m.current c.args.start n _ c.pending-count-count.ensures w.if-start-count.false
-      | else-self-via-else-self w ↦ elsewhere m.current c.args.start n _ c.pending-count-count.ensures w.if-self.false
+      | else-self-via-then-self+else-start-count w ↦ at_end m.current c.args.start n _ c.pending_count-count.ensures w.if-start-count.false
+      | else-self-via-else-self w ↦ elsewhere m.current c.args.start n _ c.pending_count-count.ensures w.if-self.false
     ] in
-    let e = past m c.args.start f (let x = c.pending-count-count.ensures in let y = c.if-start-count-2.true in omega arith) in
+    let e = past m c.args.start f (let x = c.pending_count-count.ensures in let y = c.if-start-count-2.true in omega arith) in
     record { answer = sym (refused_answer m (ResolveReferences c.args.start) StartPastPending e); after = sym (refused_after m (ResolveReferences c.args.start) StartPastPending e) }
 
-pub returns-then-not-has-places : goal.returns-then-not-has-places
-returns-then-not-has-places g c =
+pub returns-then-not-has_places : goal.returns-then-not-has_places
+returns-then-not-has_places g c =
     let s = c.args.self.now in
     let m = view g.B.PairSet.pairs g.H.PairSet.pairs g.R.PairSet.pairs s in
     let n = length m.uses.pending in
     let f : (eqb m.current 0 && not (eqb c.args.start n)) ≡ false =
     elim c.else-self.branch [
-      | else-self-via-then-self+else-start-count w ↦ at_end m.current c.args.start n _ c.pending-count-count.ensures w.if-start-count.false
-      | else-self-via-else-self w ↦ elsewhere m.current c.args.start n _ c.pending-count-count.ensures w.if-self.false
+      | else-self-via-then-self+else-start-count w ↦ at_end m.current c.args.start n _ c.pending_count-count.ensures w.if-start-count.false
+      | else-self-via-else-self w ↦ elsewhere m.current c.args.start n _ c.pending_count-count.ensures w.if-self.false
     ] in
-    let e = passes m c.args.start f (let x = c.pending-count-count.ensures in let y = c.if-start-count-2.false in omega arith) in
-    let none : leb (m.uses.roots.size + (n - c.args.start)) 512 ≡ false = sym (c.has-places.ensures ∙ ap (λ x. leb (m.uses.roots.size + (x - c.args.start)) 512) c.pending-count-count.ensures) ∙ c.if-not-has-places.true in
+    let e = passes m c.args.start f (let x = c.pending_count-count.ensures in let y = c.if-start-count-2.false in omega arith) in
+    let none : leb (m.uses.roots.size + (n - c.args.start)) 512 ≡ false = sym (c.has_places.ensures ∙ ap (λ x. leb (m.uses.roots.size + (x - c.args.start)) 512) c.pending_count-count.ensures) ∙ c.if-not-has_places.true in
     record { answer = sym (full_answer m (ResolveReferences c.args.start) e none); after = sym (full_after m (ResolveReferences c.args.start) e none) }
 
-pub invariant-of-self : goal.invariant-of-self
-invariant-of-self g c =
+pub invariant_of-self : goal.invariant_of-self
+invariant_of-self g c =
     let s = c.args.self.now in
     let m = view g.B.PairSet.pairs g.H.PairSet.pairs g.R.PairSet.pairs s in
-    let k = kept_as m.uses _ _ (c.resolve-from.ensures.after m.names.hoisting) (resolve_here_keeps m.scopes m.current m.names c.args.start m.uses) in
-    (subst (λ (x : Contents). s.current.0 < length x.scopes) (sym c.resolve-from.ensures.rest) s.here, (k.waits s.waits, (k.total ∙ s.counted ∙ sym k.references, tt)))
+    let k = kept_as m.uses _ _ (c.resolve_from.ensures.after m.names.hoisting) (resolve_here_keeps m.scopes m.current m.names c.args.start m.uses) in
+    (subst (λ (x : Contents). s.current.0 < length x.scopes) (sym c.resolve_from.ensures.rest) s.here, (k.waits s.waits, (k.total ∙ s.counted ∙ sym k.references, tt)))
 
 pub returns : goal.returns
 unfolding granted granted_answer
@@ -85,14 +85,14 @@ returns g c =
     let n = length m.uses.pending in
     let f : (eqb m.current 0 && not (eqb c.args.start n)) ≡ false =
     elim c.else-self.branch [
-      | else-self-via-then-self+else-start-count w ↦ at_end m.current c.args.start n _ c.pending-count-count.ensures w.if-start-count.false
-      | else-self-via-else-self w ↦ elsewhere m.current c.args.start n _ c.pending-count-count.ensures w.if-self.false
+      | else-self-via-then-self+else-start-count w ↦ at_end m.current c.args.start n _ c.pending_count-count.ensures w.if-start-count.false
+      | else-self-via-else-self w ↦ elsewhere m.current c.args.start n _ c.pending_count-count.ensures w.if-self.false
     ] in
-    let no = passes m c.args.start f (let x = c.pending-count-count.ensures in let y = c.if-start-count-2.false in omega arith) in
-    let ok : leb (m.uses.roots.size + (n - c.args.start)) 512 ≡ true = sym (c.has-places.ensures ∙ ap (λ x. leb (m.uses.roots.size + (x - c.args.start)) 512) c.pending-count-count.ensures) ∙ c.if-not-has-places.false in
-    let e = c.resolve-from.ensures.after m.names.hoisting in
+    let no = passes m c.args.start f (let x = c.pending_count-count.ensures in let y = c.if-start-count-2.false in omega arith) in
+    let ok : leb (m.uses.roots.size + (n - c.args.start)) 512 ≡ true = sym (c.has_places.ensures ∙ ap (λ x. leb (m.uses.roots.size + (x - c.args.start)) 512) c.pending_count-count.ensures) ∙ c.if-not-has_places.false in
+    let e = c.resolve_from.ensures.after m.names.hoisting in
     record {
-      answer = c.resolve-from.ensures.answer ∙ ap (counted m.uses) e ∙ sym (granted_answers m (ResolveReferences c.args.start) no ok);
-      after = ap (λ x. assemble m x (uses_of (contents c.resolve-from.new.scoping) (g.R.PairSet.pairs c.resolve-from.new.roots))) c.resolve-from.ensures.rest
+      answer = c.resolve_from.ensures.answer ∙ ap (counted m.uses) e ∙ sym (granted_answers m (ResolveReferences c.args.start) no ok);
+      after = ap (λ x. assemble m x (uses_of (contents c.resolve_from.new.scoping) (g.R.PairSet.pairs c.resolve_from.new.roots))) c.resolve_from.ensures.rest
           ∙ ap (assemble m (beside_uses (contents s.scoping))) e ∙ sym (granted_after m (ResolveReferences c.args.start) no ok);
     }
