@@ -1,10 +1,9 @@
 -- What a bind comes to, once it is checked.
-use Rattle.std.proofs.Common.{◌≡◌, ℕ, suc, ◌+◌, ◌<◌, ◌≤◌, Bool, true, false, cond, not, ◌||◌, eqb, ltb, leb, List, length, Some, None, Ok, Err, Option, Result, sym, refl, ap, ◌∙◌, arith}
+use Rattle.std.proofs.Common.{◌≡◌, ℕ, suc, ◌+◌, ◌<◌, ◌≤◌, Bool, true, false, cond, not, ◌||◌, eqb, ltb, leb, length, Some, None, Ok, Err, Option, Result, refl, ap, arith}
 use Rattle.std.proofs.lemmas.Bool.{ltb-false, leb-false}
 use Rattle.tables.specs.Flags.{meets, less}
 use Rattle.tables.specs.Limits.{no_room}
 use Rattle.tables.specs.declared.id.Name.{Name}
-use Rattle.tables.specs.declared.row.ScopeRow.{ScopeRow}
 use Rattle.tables.specs.declared.refusal.Refusal.{Refusal}
 use Rattle.tables.specs.declared.refusal.Refusal.TheVariants.{UnknownKind, ModifierNotOfKind, SpanReversed, DeclarationsFull}
 use Rattle.tables.specs.Contents.{Contents}
@@ -14,10 +13,9 @@ use Rattle.model.specs.declared.call.Declaration.{Declaration}
 use Rattle.model.specs.Kinds.{TypeScript, kind_row, includes, excludes, manner}
 use Rattle.model.specs.State.{Machine, Names}
 use Rattle.model.specs.Scopes.{is_strict, is_var, passed}
-use Rattle.model.specs.Declaring.{Told, Declared, declare}
-use Rattle.model.specs.Calls.{refusal, declarations_full, told, bound, reach}
+use Rattle.model.specs.Declaring.{declare}
+use Rattle.model.specs.Calls.{refusal, declarations_full, bound, reach}
 use Rattle.kinds.specs.declared.checked.Checked.{Checked}
-use Rattle.kinds.specs.KindNumbers.{number_of}
 use Rattle.kinds.specs.Checking.{unfit, Same, tells_of, manner_of, reach_of}
 use Rattle.model.specs.View.{uses_of}
 

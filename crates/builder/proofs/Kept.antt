@@ -1,7 +1,7 @@
 -- What the type of a builder keeps, as one fact of the current scope and the tables, and how each call keeps it.
-use Rattle.std.proofs.Common.{◌≡◌, ℕ, ◌+◌, ◌<◌, ◌≤◌, Bool, true, false, cond, ltb, ◌≢◌, List, [], ◌∷◌, ◌++◌, length, set, Some, None, Option, sym, refl, ap, ◌∙◌, subst, ⊎_elim, arith}
+use Rattle.std.proofs.Common.{◌≡◌, ℕ, ◌+◌, ◌<◌, List, [], ◌∷◌, ◌++◌, length, Some, None, Option, sym, ap, ◌∙◌, subst, ⊎_elim, arith}
 use Rattle.std.specs.List.{slice_get}
-use Rattle.std.proofs.lemmas.List.{length_push, length-set}
+use Rattle.std.proofs.lemmas.List.{length_push}
 use Rattle.std.proofs.lemmas.Option.{slice_get_past}
 use Rattle.std.proofs.lemmas.Bool.{cases_order}
 use Rattle.tables.proofs.Nths.{nth_push_below, nth_push_at}
@@ -9,18 +9,23 @@ use Rattle.tables.specs.Contents.{Contents, contents, with_scopes, with_referenc
 use Rattle.tables.specs.declared.row.ScopeRow.{ScopeRow}
 use Rattle.tables.specs.declared.row.ReferenceRow.{ReferenceRow}
 use Rattle.tables.specs.declared.row.UnresolvedReference.{UnresolvedReference}
+use Rattle.tables.specs.declared.id.Name.{Name}
+use Rattle.stores.specs.declared.key.ScopeAndName.{ScopeAndName}
+use Rattle.stores.specs.declared.store.PairSet.{Ghosts}
 use Rattle.builder.specs.declared.builder.SemanticBuilder.{SemanticBuilder}
 use Rattle.builder.specs.Waiting.{Waits}
 
-abbrev pub Kept : ℕ → Contents → Type 0
-Kept n t = (n < length t.scopes) × (Waits t × ((length t.pending + length t.resolved + length t.root ≡ length t.references) × Unit {0}))
+pub record Kept (n : ℕ) (t : Contents) : Type 0 where
+  pub here : n < length t.scopes
+  pub waits : Waits t
+  pub counted : length t.pending + length t.resolved + length t.root ≡ length t.references
 
 -- what the type gives
-pub kept_of : {B H R : Type 0} (s : SemanticBuilder B H R) → Kept s.current.0 (contents s.scoping)
-kept_of s = (s.here, (s.waits, (s.counted, tt)))
+pub kept_of : {B H R : Type 0} {bs : Ghosts B ScopeAndName} {hs : Ghosts H ScopeAndName} {rs : Ghosts R Name} (s : SemanticBuilder B H R bs hs rs) → Kept s.current.0 (contents s.scoping)
+kept_of s = record { here = s.here; waits = s.waits; counted = s.counted }
 
 pub kept_scopes : (n m : ℕ) (t : Contents) (xs : List ScopeRow) → Kept n t → m < length xs → Kept m (with_scopes t xs)
-kept_scopes n m t xs k h = (h, k.1)
+kept_scopes n m t xs k h = record { here = h; waits = k.waits; counted = k.counted }
 
 below_push : (n : ℕ) (es : List UnresolvedReference) (x : UnresolvedReference) → ((k : ℕ) (e : UnresolvedReference) → slice_get es k ≡ Some e → e.reference.0 < n) → x.reference.0 < n
     → (k : ℕ) (e : UnresolvedReference) → slice_get (es ++ x ∷ []) k ≡ Some e → e.reference.0 < n
@@ -36,5 +41,5 @@ pub kept_referred : (n : ℕ) (t : Contents) (row : ReferenceRow) (e : Unresolve
 kept_referred n t row e is k =
     let l = length_push t.references row in
     let m = length_push t.pending e in
-    let c = k.1.1.0 in
-    (k.0, (below_push _ t.pending e (λ j x q. let b = k.1.0 j x q in omega arith) (omega arith), (omega arith, tt)))
+    let c = k.counted in
+    record { here = k.here; waits = below_push _ t.pending e (λ j x q. let b = k.waits j x q in omega arith) (omega arith); counted = omega arith }

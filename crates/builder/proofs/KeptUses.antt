@@ -1,6 +1,6 @@
 -- What resolving leaves as it was: how many references there are, how many entries in the three lists together,
 -- and that every pending entry is of a reference that is there.
-use Rattle.std.proofs.Common.{◌≡◌, ℕ, zero, suc, ◌+◌, ◌<◌, List, [], ◌∷◌, ◌++◌, length, take, drop, Some, None, sym, refl, ap, ◌∙◌, subst, ⊎_elim, arith, length-append}
+use Rattle.std.proofs.Common.{◌≡◌, ℕ, zero, suc, ◌+◌, ◌<◌, List, [], ◌∷◌, ◌++◌, length, take, drop, Some, sym, refl, ap, ◌∙◌, subst, ⊎_elim, arith, length-append}
 use Rattle.std.specs.List.{slice_get}
 use Rattle.std.proofs.lemmas.List.{length_push, take-append-drop}
 use Rattle.std.proofs.lemmas.Bool.{cases_order}
@@ -9,7 +9,7 @@ use Rattle.tables.specs.declared.row.ScopeRow.{ScopeRow}
 use Rattle.tables.specs.declared.row.UnresolvedReference.{UnresolvedReference}
 use Rattle.model.specs.State.{Names, Uses}
 use Rattle.model.specs.Resolving.{Fate as ModelFate, resolve_to, list_at_root, stay, deferred, keep_pending, settle, settle_all, resolve_here, resolve_end}
-use Rattle.resolving.proofs.Resolvings.{entries, Grown, grown}
+use Rattle.resolving.proofs.Resolvings.{entries, grown}
 
 -- each entry is of one of the first n references
 abbrev pub RefersBelow : ℕ → List UnresolvedReference → Type 0

@@ -1,23 +1,22 @@
-use Rattle.std.proofs.Common.{◌≡◌, ℕ, ◌<◌, ◌≤◌, Bool, true, false, cond, ltb, length, Some, None, sym, refl, ap, ◌∙◌, subst, arith, rules}
+use Rattle.std.proofs.Common.{◌≡◌, ℕ, Bool, true, false, cond, ltb, length, Some, None, sym, ap, ◌∙◌, subst, arith}
 use Rattle.std.proofs.lemmas.Result.{err_from_is_err_and}
 use Rattle.std.proofs.lemmas.Bool.{le-ltb, lt-ltb}
 use Rattle.tables.specs.Contents.{contents}
 use Rattle.tables.specs.Limits.{no_room}
 use Rattle.tables.specs.Ids.{the_symbol}
-use Rattle.tables.specs.declared.refusal.Refusal.TheVariants.{DeclarationsFull, StoreFull}
+use Rattle.tables.specs.declared.refusal.Refusal.TheVariants.{DeclarationsFull}
 use Rattle.model.specs.declared.call.Answer.TheVariants.{Symbol, Refused}
-use Rattle.model.specs.declared.call.Call.{Call}
 use Rattle.model.specs.declared.call.Call.TheVariants.{Bind}
 use Rattle.model.specs.State.{Machine}
 use Rattle.model.specs.Declaring.{Declared}
-use Rattle.model.specs.Calls.{refusal, reach, granted, granted_answer, bound, builder_answer, builder_after}
+use Rattle.model.specs.Calls.{refusal, reach, granted, granted_answer}
 use Rattle.session.specs.Answers.{by_symbol}
 use Rattle.builder.specs.State.{view}
 use Rattle.model.specs.View.{names_of, beside_names}
 use Rattle.model.specs.declared.call.Declaration.{Declaration}
 use Rattle.kinds.specs.declared.checked.Checked.{Checked}
 use Rattle.kinds.specs.Checking.{unfit, Same, reach_of}
-use Rattle.builder.proofs.Kept.{Kept, kept_of}
+use Rattle.builder.proofs.Kept.{Kept}
 use Rattle.builder.proofs.Refusing.{refused_answer, refused_after, full_answer, full_after, granted_answers, granted_after}
 use Rattle.builder.proofs.Binding.{unfit_refused, fit_by_room, same_bound, same_reach, no_room_told, room_told, has_room, assemble}
 use Rattle.builder.proofs.builder.calls.SemanticBuilderBinding.bind.Goals as goal
@@ -74,7 +73,8 @@ returns-then-count-ge-LEAST_CAPACITY g c =
 pub invariant_of-self-2 : goal.invariant_of-self-2
 invariant_of-self-2 g c =
     let s = c.args.self.now in
-    subst (Kept s.current.0) (sym c.declare_by_manner.ensures.rest) (kept_of s)
+    let all = subst (Kept s.current.0) (sym c.declare_by_manner.ensures.rest) (record { here = s.here; waits = s.waits; counted = s.counted }) in
+    record { here = all.here; waits = all.waits; counted = all.counted }
 
 pub declare_by_manner-requires : goal.declare_by_manner-requires
 declare_by_manner-requires g c =

@@ -30,7 +30,7 @@ pub invariant_of-self : goal.invariant_of-self
 invariant_of-self g c =
     let s = c.args.self.now in
     let t = contents s.scoping in
-    subst (Kept s.current.0) (sym (c.in_err-id.ensures.after ∙ ap (with_references t) (push_refused 512 t.references _ the_reference ReferencesFull c.in_err-id.field-0.0 c.in_err-id.ensures.answer))) (kept_of s)
+    (let all = subst (Kept s.current.0) (sym (c.in_err-id.ensures.after ∙ ap (with_references t) (push_refused 512 t.references _ the_reference ReferencesFull c.in_err-id.field-0.0 c.in_err-id.ensures.answer))) (kept_of s) in record { here = all.here; waits = all.waits; counted = all.counted })
 
 pub invariant_of-self-2 : goal.invariant_of-self-2
 invariant_of-self-2 g c =
@@ -44,4 +44,4 @@ invariant_of-self-2 g c =
     let few : length t.pending < 512 = (let a = s.counted in let b = p.room in omega arith) in
     let e = c.add_pending.ensures.after ∙ ap (λ (x : Contents). with_pending x (pushed 512 x.pending entry)) (c.in_ok-id.ensures.after ∙ ap (with_references t) p.rows)
     ∙ ap (with_pending (with_references t (t.references ++ row ∷ []))) (pushed_room 512 t.pending entry few) in
-    subst (Kept s.current.0) (sym e) (kept_referred s.current.0 t row entry is (kept_of s))
+    (let all = subst (Kept s.current.0) (sym e) (kept_referred s.current.0 t row entry is (kept_of s)) in record { here = all.here; waits = all.waits; counted = all.counted })

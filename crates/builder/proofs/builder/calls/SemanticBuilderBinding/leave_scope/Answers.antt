@@ -29,5 +29,5 @@ invariant_of-self g c =
     let up = c.unwrap_or-parent.ensures ∙ ap (λ (r : ScopeRow). unwrap_or r.parent (the_scope 0)) c.scope_or_empty-left.ensures in
     let there : c.unwrap_or-parent.result.0 < length t.scopes =
     subst (λ (x : ScopeId). x.0 < length t.scopes) (sym up) (parent_there t.scopes s.scoping.tree s.current.0 s.here (get_or t.scopes s.current.0 no_scope).parent refl) in
-    subst (Kept c.unwrap_or-parent.result.0) (sym c.set_scope_flags.ensures.after)
-    (kept_scopes s.current.0 c.unwrap_or-parent.result.0 t (flagged t.scopes c.unwrap_or-parent.result.0 c.union-flags.result) (kept_of s) (simp length-set there))
+    (let all = subst (Kept c.unwrap_or-parent.result.0) (sym c.set_scope_flags.ensures.after)
+    (kept_scopes s.current.0 c.unwrap_or-parent.result.0 t (flagged t.scopes c.unwrap_or-parent.result.0 c.union-flags.result) (kept_of s) (simp length-set there)) in record { here = all.here; waits = all.waits; counted = all.counted })

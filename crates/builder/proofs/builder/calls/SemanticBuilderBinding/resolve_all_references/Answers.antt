@@ -1,4 +1,4 @@
-use Rattle.std.proofs.Common.{◌≡◌, ℕ, ◌+◌, ◌-◌, ◌<◌, ◌≤◌, true, leb, length, sym, refl, ap, ◌∙◌, subst, arith, rules}
+use Rattle.std.proofs.Common.{◌≡◌, ◌+◌, ◌<◌, true, leb, length, sym, refl, ap, ◌∙◌, subst, arith, rules}
 use Rattle.std.proofs.lemmas.Bool.{leb-true}
 use Rattle.tables.proofs.Bounds.{few_references}
 use Rattle.tables.specs.Contents.{Contents, contents}
@@ -34,7 +34,7 @@ invariant_of-self-2 g c =
     let s = c.args.self.now in
     let m = view g.B.PairSet.pairs g.H.PairSet.pairs g.R.PairSet.pairs s in
     let k = kept_as m.uses _ _ (c.resolve_all.ensures.after m.names.hoisting) (resolve_end_keeps m.scopes m.names m.uses) in
-    (subst (λ (x : Contents). s.current.0 < length x.scopes) (sym c.resolve_all.ensures.rest) s.here, (k.waits s.waits, (k.total ∙ s.counted ∙ sym k.references, tt)))
+    record { here = subst (λ (x : Contents). s.current.0 < length x.scopes) (sym c.resolve_all.ensures.rest) s.here; waits = k.waits s.waits; counted = k.total ∙ s.counted ∙ sym k.references }
 
 pub returns : goal.returns
 unfolding refusal granted granted_answer

@@ -75,7 +75,7 @@ invariant_of-self g c =
     let s = c.args.self.now in
     let m = view g.B.PairSet.pairs g.H.PairSet.pairs g.R.PairSet.pairs s in
     let k = kept_as m.uses _ _ (c.resolve_from.ensures.after m.names.hoisting) (resolve_here_keeps m.scopes m.current m.names c.args.start m.uses) in
-    (subst (λ (x : Contents). s.current.0 < length x.scopes) (sym c.resolve_from.ensures.rest) s.here, (k.waits s.waits, (k.total ∙ s.counted ∙ sym k.references, tt)))
+    record { here = subst (λ (x : Contents). s.current.0 < length x.scopes) (sym c.resolve_from.ensures.rest) s.here; waits = k.waits s.waits; counted = k.total ∙ s.counted ∙ sym k.references }
 
 pub returns : goal.returns
 unfolding granted granted_answer
