@@ -1,6 +1,9 @@
 //! Runs recorded operation lists over both kinds of stores, and compares what comes of them with the recorded listings.
+#![tactic(auto)]
+
 use model::setting::Setting;
 use std::alloc::{AllocError, Global};
+use std::process::ExitCode;
 use std::{fs, io};
 use zone_report::no_memory::NoMemory;
 use zone_report::{report_hashed, report_listed};
@@ -78,9 +81,9 @@ impl From<AllocError> for Failure {
     }
 }
 
-fn main(rt: HostRuntime) -> Result<(), Failure> {
-    let lists = fs::read_to_string(&rt, "lists.txt")?;
-    let listings = fs::read_to_string(&rt, "listings.txt")?;
+fn run(rt: &HostRuntime) -> Result<(), Failure> {
+    let lists = fs::read_to_string(rt, "lists.txt")?;
+    let listings = fs::read_to_string(rt, "listings.txt")?;
     let lists = parts(rt.alloc(), lists.as_str())?;
     let listings = parts(rt.alloc(), listings.as_str())?;
     let mut same = 0usize;
@@ -97,4 +100,11 @@ fn main(rt: HostRuntime) -> Result<(), Failure> {
         "{same} of {number} lists came out as recorded, over hashed stores and over list stores"
     )?;
     Ok(())
+}
+
+fn main(rt: HostRuntime) -> ExitCode {
+    match run(&rt) {
+        Ok(()) => ExitCode::SUCCESS,
+        Err(_) => ExitCode::FAILURE,
+    }
 }

@@ -1,8 +1,10 @@
 //! The program `zone`: reads an operation list, runs it, and lists the answers and the tables.
+#![tactic(auto)]
 
 use model::call::Answer;
 use model::setting::Setting;
 use std::io::Read;
+use std::process::ExitCode;
 use std::{env, fs, io};
 use zone_listing::answer::AnswerLine;
 use zone_report::no_memory::NoMemory;
@@ -87,9 +89,9 @@ fn list(rt: &HostRuntime, script: &Script, list_stores: bool) -> Result<(), Fail
     }
 }
 
-fn main(rt: HostRuntime) -> Result<(), Failure> {
-    let options = read_options(&rt)?;
-    let text = match read_text(&rt, &options.file) {
+fn run(rt: &HostRuntime) -> Result<(), Failure> {
+    let options = read_options(rt)?;
+    let text = match read_text(rt, &options.file) {
         Ok(text) => text,
         Err(error) => {
             eprintln!(rt; "zone: {error}")?;
@@ -97,7 +99,7 @@ fn main(rt: HostRuntime) -> Result<(), Failure> {
         }
     };
     match parse(rt.alloc(), text.as_slice()) {
-        Ok(script) => list(&rt, &script, options.list_stores),
+        Ok(script) => list(rt, &script, options.list_stores),
         Err(ParseError::Line(bad)) => {
             eprintln!(rt; "zone: {bad}")?;
             Err(Failure::Said)
@@ -106,5 +108,13 @@ fn main(rt: HostRuntime) -> Result<(), Failure> {
             eprintln!(rt; "zone: out of memory")?;
             Err(Failure::Said)
         }
+    }
+}
+
+// No result is returned, since that would print it: what there is to say is said already.
+fn main(rt: HostRuntime) -> ExitCode {
+    match run(&rt) {
+        Ok(()) => ExitCode::SUCCESS,
+        Err(_) => ExitCode::FAILURE,
     }
 }

@@ -1,4 +1,5 @@
 //! Runs a list of calls over three stores, and writes its answers and tables in the plain form.
+#![tactic(auto)]
 
 pub mod no_memory;
 mod report;
