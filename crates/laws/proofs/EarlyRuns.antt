@@ -1,6 +1,6 @@
 -- The law on early errors, over runs.
 use Rattle.std.proofs.Common.{◌≡◌, ℕ, false, not, eqb, ◌≢◌, List, [], ◌∷◌, ◌++◌, None, sym, refl, ap, ◌∙◌, subst, inl, inr, ⊎_elim, append_assoc, append-nil, not-suc-le-zero, arith, lit<}
-use Rattle.std.specs.List.{AllByRecursion as All}
+use Rattle.std.specs.List.{AllByRecursion}
 use Rattle.tables.specs.Flags.{meets, VarScope}
 use Rattle.tables.specs.declared.row.ScopeRow.{ScopeRow}
 use Rattle.model.specs.declared.call.Call.{Call}
@@ -75,14 +75,14 @@ outcome_grows m d new (made t scope at upon s a) some = λ none. some (sym a.no_
 
 -- one call
 
-bind_early : (m : Machine) (d : Declaration) (ds : List Granted) → Good m → Ranged m.names → All OfFour (granted_by m (Bind d)) → Early m.scopes m.names ds
+bind_early : (m : Machine) (d : Declaration) (ds : List Granted) → Good m → Ranged m.names → AllByRecursion OfFour (granted_by m (Bind d)) → Early m.scopes m.names ds
     → Early (after m (Bind d)).scopes (after m (Bind d)).names (ds ++ granted_by m (Bind d))
 unfolding granted
 bind_early m d ds good g four e =
     bool_cases (was_granted (answer m (Bind d))) (Early (after m (Bind d)).scopes (after m (Bind d)).names (ds ++ granted_by m (Bind d)))
     (λ yes.
     let it = cond_is_true (was_granted (answer m (Bind d))) (x ∷ []) [] yes in
-    let four' : All OfFour (x ∷ []) = subst (All OfFour) it four in
+    let four' : AllByRecursion OfFour (x ∷ []) = subst (AllByRecursion OfFour) it four in
     subst (λ ys. Early (after m (Bind d)).scopes (after m (Bind d)).names (ds ++ ys)) (sym it)
     (subst (λ (y : Machine). Early y.scopes y.names (ds ++ x ∷ [])) (sym (after_granted m (Bind d) (granted_no_refusal m (Bind d) yes)))
     (⊎_elim
@@ -104,7 +104,7 @@ other_early m c ds good other e =
     subst (Early (after m c).scopes (after m c).names) (sym (append-nil ds))
     (subst (λ y. Early (after m c).scopes y ds) (sym (other_names m c other)) (early_kept m.scopes (after m c).scopes m.names ds good.tree (after_kept m c) e))
 
-after_early : (m : Machine) (c : Call) (ds : List Granted) → Good m → Ranged m.names → All OfFour (granted_by m c) → Early m.scopes m.names ds
+after_early : (m : Machine) (c : Call) (ds : List Granted) → Good m → Ranged m.names → AllByRecursion OfFour (granted_by m c) → Early m.scopes m.names ds
     → Early (after m c).scopes (after m c).names (ds ++ granted_by m c)
 after_early m (EnterScope s) ds good g four e = other_early m (EnterScope s) ds good refl e
 after_early m LeaveScope ds good g four e = other_early m LeaveScope ds good refl e
@@ -115,15 +115,15 @@ after_early m ResolveAllReferences ds good g four e = other_early m ResolveAllRe
 
 -- and all calls
 
-all_first : {X : Type 0} (P : X → Type 0) (xs ys : List X) → All P (xs ++ ys) → All P xs
+all_first : {X : Type 0} (P : X → Type 0) (xs ys : List X) → AllByRecursion P (xs ++ ys) → AllByRecursion P xs
 all_first P [] ys h = tt
 all_first P (x ∷ xs) ys h = (h.0, all_first P xs ys h.1)
 
-all_rest : {X : Type 0} (P : X → Type 0) (xs ys : List X) → All P (xs ++ ys) → All P ys
+all_rest : {X : Type 0} (P : X → Type 0) (xs ys : List X) → AllByRecursion P (xs ++ ys) → AllByRecursion P ys
 all_rest P [] ys h = h
 all_rest P (x ∷ xs) ys h = all_rest P xs ys h.1
 
-run_early : (cs : List Call) (m : Machine) (ds : List Granted) → Good m → Ranged m.names → All OfFour (declarations m cs) → Early m.scopes m.names ds
+run_early : (cs : List Call) (m : Machine) (ds : List Granted) → Good m → Ranged m.names → AllByRecursion OfFour (declarations m cs) → Early m.scopes m.names ds
     → Early (run m cs).scopes (run m cs).names (ds ++ declarations m cs)
 run_early [] m ds good g four e = subst (Early m.scopes m.names) (sym (append-nil ds)) e
 run_early (c ∷ cs) m ds good g four e =

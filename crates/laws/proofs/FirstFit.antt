@@ -4,7 +4,7 @@ use mathlib.Core.List.{Memᴰ}
 use lib.Seq.{drop-length, take-length}
 use Rattle.std.proofs.lemmas.Bool.{cond_both, true≢false, eqb-true, eq-eqb}
 use Rattle.std.proofs.lemmas.Bool.Decides.{nat_tests}
-use Rattle.std.specs.List.{AllByRecursion as All}
+use Rattle.std.specs.List.{AllByRecursion}
 use Rattle.tables.specs.declared.refusal.Refusal.{Refusal}
 use Rattle.tables.specs.declared.refusal.Refusal.TheVariants.{AtRoot, StartPastPending}
 use Rattle.tables.specs.declared.row.ScopeRow.{ScopeRow}
@@ -39,7 +39,7 @@ unfolding fate_at_end
 end_by_flags rows nm us us' e h =
     ap (λ flags. maybe (search nm e.name.0 flags (lookup_chain rows e.name.0 flags e.scope.0)) list_at_root resolve_to) h
 
-all_of : {X : Type 0} (P : X → Type 0) → ((x : X) → P x) → (xs : List X) → All P xs
+all_of : {X : Type 0} (P : X → Type 0) → ((x : X) → P x) → (xs : List X) → AllByRecursion P xs
 all_of P h [] = tt
 all_of P h (x ∷ xs) = (h x, all_of P h xs)
 
@@ -140,11 +140,11 @@ module _ (m : Machine) (good : Good m) (single : KeptSingle m) where
   parent = maybe (parent_of rows m.current) 0 (λ p. p)
 
   rights : (start : ℕ) → refusal m (ResolveReferences start) ≡ None
-      → All (λ (e : UnresolvedReference). Right m (Below m m.current) e (fate_here rows m.current parent m.names m.uses e)) (drop start m.uses.pending)
+      → AllByRecursion (λ (e : UnresolvedReference). Right m (Below m m.current) e (fate_here rows m.current parent m.names m.uses e)) (drop start m.uses.pending)
   rights start allowed =
       let P : UnresolvedReference → Type 0 = λ e. Right m (Below m m.current) e (fate_here rows m.current parent m.names m.uses e) in
       ⊎_elim
-      (λ none. subst (All P) (sym none) tt)
+      (λ none. subst (AllByRecursion P) (sym none) tt)
       (λ q. let up : parent_of rows m.current ≡ Some parent = q.1 ∙ ap (λ o. Some (maybe o 0 (λ p. p))) (sym q.1) in all_of P (here_right parent up) (drop start m.uses.pending))
       (has_parent start allowed)
 

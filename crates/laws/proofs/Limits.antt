@@ -1,7 +1,7 @@
 -- No run goes past the limits.
 use Rattle.std.proofs.Common.{◌≡◌, ℕ, suc, ◌+◌, ◌-◌, ◌<◌, ◌≤◌, true, false, cond, not, ◌||◌, eqb, ltb, leb, List, [], ◌∷◌, length, Some, None, Option, sym, refl, ap, ◌∙◌, subst, arith, length-append}
 use Rattle.std.proofs.lemmas.Bool.{cond_both, or_parts, ltb-false, leb-false, lt-ltb, le-leb}
-use Rattle.std.specs.List.{AllByRecursion as All}
+use Rattle.std.specs.List.{AllByRecursion}
 use Rattle.tables.specs.Flags.{less, all_reference_flags}
 use Rattle.tables.specs.declared.refusal.Refusal.{Refusal}
 use Rattle.tables.specs.declared.refusal.Refusal.TheVariants.{UnlistedBits, UnknownKind, ModifierNotOfKind, SpanReversed, NoSuchScope, DeclarationsFull, ReferencesFull, StoreFull}
@@ -33,9 +33,9 @@ pub record Limited (m : Machine) : Type 0 where
   pub references : length m.uses.references ≤ 512
 
 -- no test holds of a call that is granted
-none_holds : (ts : List Test) → first_of ts ≡ None → All (λ t. t.holds ≡ false) ts
+none_holds : (ts : List Test) → first_of ts ≡ None → AllByRecursion (λ t. t.holds ≡ false) ts
 none_holds [] e = tt
-none_holds (t ∷ ts) e = bool_cases t.holds (All (λ t. t.holds ≡ false) (t ∷ ts))
+none_holds (t ∷ ts) e = bool_cases t.holds (AllByRecursion (λ t. t.holds ≡ false) (t ∷ ts))
     (λ b. absurd (none≢some _ t.refusal e (cond_is_true t.holds (Some t.refusal) (first_of ts) b)))
     (λ b. (b, none_holds ts (sym (ap (λ x. cond x (Some t.refusal) (first_of ts)) b) ∙ e)))
 

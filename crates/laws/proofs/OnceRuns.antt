@@ -3,7 +3,7 @@ use Rattle.std.proofs.Common.{◌≡◌, ℕ, ◌+◌, ◌<◌, ◌≤◌, true,
 use lib.ListN.{get_or-eq_default}
 use Rattle.std.proofs.lemmas.Bool.{true≢false, cases_lt}
 use Rattle.std.proofs.ByRecursion.{All-weaker}
-use Rattle.std.specs.List.{AllByRecursion as All}
+use Rattle.std.specs.List.{AllByRecursion}
 use Rattle.tables.specs.Flags.{meets}
 use Rattle.tables.specs.declared.refusal.Refusal.{Refusal}
 use Rattle.tables.specs.declared.row.ScopeRow.{ScopeRow}
@@ -119,7 +119,7 @@ module _ (names : List ℕ) (m : Machine) (o : InOrder names m) where
       let p = sum_ones of_pending m.uses.pending in let q = sum_ones of_resolved m.uses.resolved in let t = sum_ones of_root m.uses.root in omega arith
 
   module _ (r s : ℕ) (e : resolved_to m.uses r ≡ Some s) where
-    none_has_it : {X : Type 0} (col : X → ℕ) (xs : List X) → All (λ x. resolved_to m.uses (col x) ≡ None) xs → sum_of col (one r) xs ≡ 0
+    none_has_it : {X : Type 0} (col : X → ℕ) (xs : List X) → AllByRecursion (λ x. resolved_to m.uses (col x) ≡ None) xs → sum_of col (one r) xs ≡ 0
     none_has_it col xs h = none_counted col r xs (All-weaker _ _ (λ x q z. none≢some (resolved_to m.uses (col x)) s q (ap (resolved_to m.uses) z ∙ e)) xs h)
 
     row_there : r < length m.uses.references

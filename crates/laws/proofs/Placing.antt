@@ -4,7 +4,7 @@ use lib.ListN.{get_or-append, get_or-eq_default}
 use lib.Seq.{get_or-append_seam}
 use Rattle.std.proofs.lemmas.Bool.{cond_both, cases_eq, cases_lt}
 use Rattle.std.proofs.ByRecursion.{All-push, All-weaker, All-take, All-drop}
-use Rattle.std.specs.List.{AllByRecursion as All}
+use Rattle.std.specs.List.{AllByRecursion}
 use Rattle.tables.specs.declared.row.ScopeRow.{ScopeRow}
 use Rattle.tables.specs.declared.row.ReferenceRow.{ReferenceRow}
 use Rattle.tables.specs.declared.row.UnresolvedReference.{UnresolvedReference}
@@ -42,15 +42,15 @@ RootNamed names us k = (k.reference.0 < length names) × (us.roots.get (the_name
 pub record Ordered (names : List ℕ) (nm : Names) (us : Uses) (es : List UnresolvedReference) : Type 0 where
   pub weighed : (w : ℕ → ℕ) → weight w us + sum_of of_pending w es ≡ total w (length us.references)
   pub rows : length us.references ≡ length names
-  pub pending_named : All (λ (e : UnresolvedReference). Named names e.reference.0 e.name.0) us.pending
-  pub waiting_named : All (λ (e : UnresolvedReference). Named names e.reference.0 e.name.0) es
-  pub root_named : All (RootNamed names us) us.root
+  pub pending_named : AllByRecursion (λ (e : UnresolvedReference). Named names e.reference.0 e.name.0) us.pending
+  pub waiting_named : AllByRecursion (λ (e : UnresolvedReference). Named names e.reference.0 e.name.0) es
+  pub root_named : AllByRecursion (RootNamed names us) us.root
   pub root_numbers : NumbersRight us.roots us.root
-  pub resolved_rows : All (λ (j : ResolvedReference). resolved_to us j.reference.0 ≡ Some j.symbol.0) us.resolved
-  pub pending_rows : All (λ (e : UnresolvedReference). resolved_to us e.reference.0 ≡ None) us.pending
-  pub waiting_rows : All (λ (e : UnresolvedReference). resolved_to us e.reference.0 ≡ None) es
-  pub root_rows : All (λ (k : RootReference). resolved_to us k.reference.0 ≡ None) us.root
-  pub resolved_there : All (λ (j : ResolvedReference). (j.symbol.0 < length nm.symbols) × Named names j.reference.0 (symbol_row nm j.symbol.0).name.0) us.resolved
+  pub resolved_rows : AllByRecursion (λ (j : ResolvedReference). resolved_to us j.reference.0 ≡ Some j.symbol.0) us.resolved
+  pub pending_rows : AllByRecursion (λ (e : UnresolvedReference). resolved_to us e.reference.0 ≡ None) us.pending
+  pub waiting_rows : AllByRecursion (λ (e : UnresolvedReference). resolved_to us e.reference.0 ≡ None) es
+  pub root_rows : AllByRecursion (λ (k : RootReference). resolved_to us k.reference.0 ≡ None) us.root
+  pub resolved_there : AllByRecursion (λ (j : ResolvedReference). (j.symbol.0 < length nm.symbols) × Named names j.reference.0 (symbol_row nm j.symbol.0).name.0) us.resolved
 
 module _ (names : List ℕ) (nm : Names) where
   -- the entry that is settled next is in no list, and does not wait twice
@@ -64,11 +64,11 @@ module _ (names : List ℕ) (nm : Names) where
 
     -- rows of other references stay, when it is resolved
     stays : (s : ℕ) → {X : Type 0} (col : X → ℕ) (val : X → Option ℕ) (xs : List X) → sum_of col (one e.reference.0) xs ≡ 0
-        → All (λ x. resolved_to us (col x) ≡ val x) xs → All (λ x. resolved_to (settle nm us e (resolve_to s)) (col x) ≡ val x) xs
+        → AllByRecursion (λ x. resolved_to us (col x) ≡ val x) xs → AllByRecursion (λ x. resolved_to (settle nm us e (resolve_to s)) (col x) ≡ val x) xs
     unfolding settle
     stays s {X} col val xs z h = go xs (none_there col e.reference.0 xs z) h
       where
-        go : (ys : List X) → All (λ y. col y ≡ e.reference.0 → ⊥) ys → All (λ x. resolved_to us (col x) ≡ val x) ys → All (λ x. resolved_to (settle nm us e (resolve_to s)) (col x) ≡ val x) ys
+        go : (ys : List X) → AllByRecursion (λ y. col y ≡ e.reference.0 → ⊥) ys → AllByRecursion (λ x. resolved_to us (col x) ≡ val x) ys → AllByRecursion (λ x. resolved_to (settle nm us e (resolve_to s)) (col x) ≡ val x) ys
         go [] a k = tt
         go (y ∷ ys) a k = (ap (λ (r : ReferenceRow). symbol_number r.symbol) (get_or-set_other us.references e.reference.0 (col y) _ no_reference a.0) ∙ k.0, go ys a.1 k.1)
 

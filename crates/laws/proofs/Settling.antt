@@ -2,7 +2,7 @@
 use Rattle.std.proofs.Common.{◌≡◌, ℕ, ◌<◌, cond, ◌⊎◌, List, [], ◌∷◌, ◌++◌, length, Some, sym, refl, ap, ◌∙◌, subst, inl, inr, ⊎_elim, append_assoc, append-nil, arith, get_or-set_other, get_or-set_same}
 use mathlib.Core.List.Memᴰ
 use Rattle.std.proofs.lemmas.Bool.{eqb-true, eq-eqb, cases_lt}
-use Rattle.std.specs.List.{AllByRecursion as All}
+use Rattle.std.specs.List.{AllByRecursion}
 use Rattle.tables.specs.declared.id.Name.{Name}
 use Rattle.tables.specs.declared.id.ReferenceId.{ReferenceId}
 use Rattle.tables.specs.declared.row.ReferenceRow.{ReferenceRow}
@@ -174,7 +174,7 @@ module _ (m : Machine) (Looks : ℕ → Type 0) where
   module _ (fate : Uses → UnresolvedReference → Fate) (by_flags : (us us' : Uses) (e : UnresolvedReference) → use_flags us e.reference.0 ≡ use_flags us' e.reference.0 → fate us e ≡ fate us' e) where
     -- the rows of what is yet to be settled are those at the call's entry
     abbrev SameRows : Uses → List UnresolvedReference → Type 0
-    SameRows us es = All (λ (e : UnresolvedReference). reference_row us e.reference.0 ≡ reference_row m.uses e.reference.0) es
+    SameRows us es = AllByRecursion (λ (e : UnresolvedReference). reference_row us e.reference.0 ≡ reference_row m.uses e.reference.0) es
 
     settle_same : (us : Uses) (e : UnresolvedReference) (f : Fate) (es : List UnresolvedReference) → ((x : UnresolvedReference) → x ∈ es → x.reference.0 ≡ e.reference.0 → ⊥) → SameRows us es → SameRows (settle m.names us e f) es
     unfolding settle
@@ -184,7 +184,7 @@ module _ (m : Machine) (Looks : ℕ → Type 0) where
     settle_same us e list_at_root (x ∷ es) a h = h
     settle_same us e (stay s) (x ∷ es) a h = h
 
-    pub walk : (es : List UnresolvedReference) (us : Uses) → Single us es → SameRows us es → All (λ (e : UnresolvedReference). Right e (fate m.uses e)) es → Walked us es (settle_all m.names fate us es)
+    pub walk : (es : List UnresolvedReference) (us : Uses) → Single us es → SameRows us es → AllByRecursion (λ (e : UnresolvedReference). Right e (fate m.uses e)) es → Walked us es (settle_all m.names fate us es)
     unfolding settle_all
     walk [] us o h rights =
         record {

@@ -3,7 +3,7 @@ use Rattle.std.proofs.Common.{◌≡◌, ℕ, suc, pred, ◌<◌, ◌≤◌, tru
 use lib.ListN.{get_or-append}
 use lib.Seq.{get_or-append_seam}
 use Rattle.std.proofs.lemmas.Bool.{true≢false, cond_both}
-use Rattle.std.specs.List.{AllByRecursion as All}
+use Rattle.std.specs.List.{AllByRecursion}
 use Rattle.tables.specs.Flags.{meets, ByValue, FunctionExpression}
 use Rattle.tables.specs.declared.row.ScopeRow.{ScopeRow}
 use Rattle.tables.specs.declared.row.SymbolRow.{SymbolRow}
@@ -273,7 +273,7 @@ module _ (rows : List ScopeRow) where
           binds = move_binds tree nm' p t d.name s;
         }
 
-    pub scan_sound : (t : ℕ) (ps : List ℕ) → is_var rows t ≡ true → All (Passes rows tree t) ps → (nm : Names) → Sound rows nm → Scanned t (scan d t nm ps)
+    pub scan_sound : (t : ℕ) (ps : List ℕ) → is_var rows t ≡ true → AllByRecursion (Passes rows tree t) ps → (nm : Names) → Sound rows nm → Scanned t (scan d t nm ps)
     unfolding scan
     scan_sound t [] var all nm h =
         record {
@@ -287,7 +287,7 @@ module _ (rows : List ScopeRow) where
         (λ _. stop_sound t p s all.0 nm h e)
         (λ _. scan_sound t ps var all.1 (complain d nm s) (complain_sound d nm s h)))
 
-    pub hoist_all_sound : (t s : ℕ) (ps : List ℕ) → All (Passes rows tree t) ps → (nm : Names) → Binds nm t d.name → Sound rows nm → Sound rows (hoist_all nm ps d.name s)
+    pub hoist_all_sound : (t s : ℕ) (ps : List ℕ) → AllByRecursion (Passes rows tree t) ps → (nm : Names) → Binds nm t d.name → Sound rows nm → Sound rows (hoist_all nm ps d.name s)
     unfolding hoist_all
     hoist_all_sound t s [] all nm b h = h
     hoist_all_sound t s (p ∷ ps) all nm b h =
@@ -296,7 +296,7 @@ module _ (rows : List ScopeRow) where
         (hoist_sound tree nm 0 0 d.name s p way.lies way.no_var (subst (λ x. Binds nm x d.name) (sym way.goal) b) h)
 
     module _ (here : ℕ) (lies : here < length rows) (nm : Names) (h : Sound rows nm) where
-      ways : All (Passes rows tree (target rows here)) (passed rows here)
+      ways : AllByRecursion (Passes rows tree (target rows here)) (passed rows here)
       ways = passed_all rows tree (suc here) (target rows here) here (omega arith) lies refl
 
       pub var_sound : Sound rows (declare_var d rows here nm).names

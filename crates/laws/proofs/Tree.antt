@@ -3,7 +3,7 @@ use Rattle.std.proofs.Common.{◌≡◌, ℕ, zero, suc, ◌<◌, ◌≤◌, tru
 use lib.ListN.{get_or-append}
 use lib.Seq.{get_or-append_seam}
 use Rattle.std.proofs.lemmas.Bool.{true≢false, cases_lt}
-use Rattle.std.specs.List.{AllByRecursion as All}
+use Rattle.std.specs.List.{AllByRecursion}
 use Rattle.tables.specs.Flags.{meets, VarScope}
 use Rattle.tables.specs.Trees as trees
 use Rattle.tables.specs.declared.row.ScopeRow.{ScopeRow}
@@ -44,14 +44,14 @@ module _ (rows : List ScopeRow) (tree : Tree rows) where
     pub no_var : is_var rows s ≡ false
     pub goal : target rows s ≡ t
 
-  pub passed_all : (f t s : ℕ) → s < f → s < length rows → target rows s ≡ t → All (Passes t) (passed rows s)
+  pub passed_all : (f t s : ℕ) → s < f → s < length rows → target rows s ≡ t → AllByRecursion (Passes t) (passed rows s)
   passed_all zero t s h k e = absurd (not-suc-le-zero h)
   passed_all (suc f) t s h k e =
-      bool_cases (is_var rows s) (All (Passes t) (passed rows s))
-      (λ v. subst (All (Passes t)) (sym (passed_here rows tree.lower s v)) tt)
+      bool_cases (is_var rows s) (AllByRecursion (Passes t) (passed rows s))
+      (λ v. subst (AllByRecursion (Passes t)) (sym (passed_here rows tree.lower s v)) tt)
       (λ v. let q : (p : ℕ) × (parent_of rows s ≡ Some p) = has_parent s k v in
       let l : q.0 < s = tree.lower s q.0 q.1 in
-      subst (All (Passes t)) (sym (passed_up rows tree.lower s q.0 v q.1)) (
+      subst (AllByRecursion (Passes t)) (sym (passed_up rows tree.lower s q.0 v q.1)) (
         record { lies = k; no_var = v; goal = e },
         passed_all f t q.0 (omega arith) (omega arith) (sym (target_up rows tree.lower s q.0 v q.1) ∙ e),
       ))

@@ -4,7 +4,7 @@ use lib.Bits.{bit_or}
 use lib.ListN.{get_or-append}
 use lib.Seq.{get_or-append_seam}
 use Rattle.std.proofs.lemmas.Bool.{cond_both, cases_eq, cases_lt}
-use Rattle.std.specs.List.{AllByRecursion as All}
+use Rattle.std.specs.List.{AllByRecursion}
 use Rattle.tables.specs.Flags.{meets, ByValue, Ambient, AsyncOrGenerator}
 use Rattle.tables.specs.declared.id.Name.{Name}
 use Rattle.tables.specs.declared.row.ScopeRow.{ScopeRow}
@@ -124,7 +124,7 @@ module _ (name : ℕ) where
 abbrev GivesValue : KindRow → Type 0
 GivesValue r = meets r.includes ByValue ≡ true
 
-among_first : (n i : ℕ) (xs : List KindRow) (d : KindRow) → i < n → n ≤ length xs → All GivesValue (take n xs) → GivesValue (get_or xs i d)
+among_first : (n i : ℕ) (xs : List KindRow) (d : KindRow) → i < n → n ≤ length xs → AllByRecursion GivesValue (take n xs) → GivesValue (get_or xs i d)
 among_first zero i xs d l h a = absurd (omega arith)
 among_first (suc n) i [] d l h a = absurd (omega arith)
 among_first (suc n) zero (x ∷ xs) d l h a = a.0

@@ -2,7 +2,7 @@
 -- in the three lists together are those of all references.
 use Rattle.std.proofs.Common.{◌≡◌, ℕ, zero, suc, ◌+◌, ◌<◌, ◌≤◌, eqb, List, [], ◌∷◌, ◌++◌, length, filter, sym, refl, ap, ◌∙◌, ⊎_elim, not-suc-le-zero, arith}
 use Rattle.std.proofs.lemmas.Bool.{cond_both, cases_eq, cases_lt, eqb-true, eqb-false, eq-eqb, ne_eqb}
-use Rattle.std.specs.List.{AllByRecursion as All}
+use Rattle.std.specs.List.{AllByRecursion}
 use Rattle.tables.specs.declared.row.UnresolvedReference.{UnresolvedReference}
 use Rattle.model.specs.State.{Names, Uses}
 use Rattle.model.specs.Resolving.{Fate, resolve_to, list_at_root, stay, settle, settle_all}
@@ -50,7 +50,7 @@ pub total_one_le : (r n : ℕ) → total (one r) n ≤ 1
 total_one_le r n = ⊎_elim (λ h. let a = total_one r n h in omega arith) (λ h. let a = total_one_past r n h in omega arith) (cases_lt r n)
 
 -- what is counted nowhere is not there
-pub none_there : {X : Type 0} (col : X → ℕ) (r : ℕ) (xs : List X) → sum_of col (one r) xs ≡ 0 → All (λ x. col x ≡ r → ⊥) xs
+pub none_there : {X : Type 0} (col : X → ℕ) (r : ℕ) (xs : List X) → sum_of col (one r) xs ≡ 0 → AllByRecursion (λ x. col x ≡ r → ⊥) xs
 none_there col r [] h = tt
 none_there col r (x ∷ xs) h =
     (λ e. let a : one r (col x) ≡ 1 = ap (one r) e ∙ one_here r in omega arith, none_there col r xs (omega arith))
@@ -76,7 +76,7 @@ total_same f g zero h = refl
 total_same f g (suc n) h = let a = total_same f g n h in let b = h n in omega arith
 
 -- a list is as long as its parts by a key together
-pub total_parts : {X : Type 0} (key : X → ℕ) (bound : ℕ) (xs : List X) → All (λ x. key x < bound) xs → total (λ k. length (filter (λ x. eqb (key x) k) xs)) bound ≡ length xs
+pub total_parts : {X : Type 0} (key : X → ℕ) (bound : ℕ) (xs : List X) → AllByRecursion (λ x. key x < bound) xs → total (λ k. length (filter (λ x. eqb (key x) k) xs)) bound ≡ length xs
 total_parts key bound [] h = total_zero bound
 total_parts key bound (x ∷ xs) h =
     let a = total_parts key bound xs h.1 in
@@ -91,12 +91,12 @@ total_parts key bound (x ∷ xs) h =
     omega arith
 
 -- what is not there is not counted
-pub none_counted : {X : Type 0} (col : X → ℕ) (r : ℕ) (xs : List X) → All (λ x. col x ≡ r → ⊥) xs → sum_of col (one r) xs ≡ 0
+pub none_counted : {X : Type 0} (col : X → ℕ) (r : ℕ) (xs : List X) → AllByRecursion (λ x. col x ≡ r → ⊥) xs → sum_of col (one r) xs ≡ 0
 none_counted col r [] h = refl
 none_counted col r (x ∷ xs) h = let a = one_apart r (col x) h.0 in let b = none_counted col r xs h.1 in omega arith
 
 -- a reference that is only under one key is counted there as often as in all
-pub counted_there : {X : Type 0} (col key : X → ℕ) (r s : ℕ) (xs : List X) → All (λ x. col x ≡ r → key x ≡ s) xs → sum_of col (one r) (filter (λ x. eqb (key x) s) xs) ≡ sum_of col (one r) xs
+pub counted_there : {X : Type 0} (col key : X → ℕ) (r s : ℕ) (xs : List X) → AllByRecursion (λ x. col x ≡ r → key x ≡ s) xs → sum_of col (one r) (filter (λ x. eqb (key x) s) xs) ≡ sum_of col (one r) xs
 counted_there col key r s [] h = refl
 counted_there {X} col key r s (x ∷ xs) h =
     let rest = filter (λ (y : X). eqb (key y) s) xs in

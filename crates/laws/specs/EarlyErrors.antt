@@ -1,7 +1,7 @@
 -- Early errors: in a run that declares with var, let, const and class alone, the conflict list is empty exactly if no scope has a name
 -- lexically declared twice, or lexically declared and also var-declared in it or through it.
 use Rattle.std.specs.Prelude.{◌≡◌, ℕ, ◌≤◌, false, cond, ◌≢◌, ◌⊎◌, List, [], ◌∷◌, ◌++◌, Some}
-use Rattle.std.specs.List.{AllByRecursion as All}
+use Rattle.std.specs.List.{AllByRecursion}
 use Rattle.tables.specs.declared.row.ScopeRow.{ScopeRow}
 use Rattle.model.specs.declared.call.Call.{Call}
 use Rattle.model.specs.declared.call.Call.TheVariants.{EnterScope, LeaveScope, Bind, DeclareReference, ResolveReferences, ResolveAllReferences}
@@ -69,4 +69,4 @@ pub record EarlyRight (m : Machine) (ds : List Granted) : Type 0 where
   pub conflict_shows : m.names.conflicts ≢ [] → (scope name : ℕ) × EarlyError ds scope name
 
 abbrev pub EarlyErrors : Type 0
-EarlyErrors = (setting : ℕ) (cs : List Call) → All OfFour (declarations (fresh setting) cs) → EarlyRight (run (fresh setting) cs) (declarations (fresh setting) cs)
+EarlyErrors = (setting : ℕ) (cs : List Call) → AllByRecursion OfFour (declarations (fresh setting) cs) → EarlyRight (run (fresh setting) cs) (declarations (fresh setting) cs)

@@ -1,7 +1,7 @@
 -- Once: each reference that was accepted is in exactly one list, once: the pending list, the resolved list of a symbol, or the root
 -- unresolved list of the name that its call gave.
 use Rattle.std.specs.Prelude.{◌≡◌, ℕ, zero, suc, ◌+◌, ◌<◌, ◌≤◌, Bool, true, false, cond, ◌⊎◌, List, [], ◌∷◌, ◌++◌, length, Some, None, filter, Option, ◌==◌, nat_eq, slice_index}
-use Rattle.std.specs.List.{AllByRecursion as All}
+use Rattle.std.specs.List.{AllByRecursion}
 use Rattle.tables.specs.declared.row.UnresolvedReference.{UnresolvedReference}
 use Rattle.tables.specs.declared.row.ResolvedReference.{ResolvedReference}
 use Rattle.tables.specs.declared.row.RootReference.{RootReference}
@@ -114,17 +114,17 @@ pub record Placed (names : List ℕ) (nm : Names) (us : Uses) : Type 0 where
   pub all : length names ≡ length us.pending + resolved_in_all nm us + listed_in_all us
   pub rows : length us.references ≡ length names
   -- a pending entry has the name that its call gave, and a root row is in the list of that name
-  pub pending_names : All (λ (e : UnresolvedReference). e.name.0 ≡ slice_index names e.reference.0) us.pending
-  pub root_names : All (λ (k : RootReference). us.roots.get (the_name (slice_index names k.reference.0)) ≡ Some k.list) us.root
+  pub pending_names : AllByRecursion (λ (e : UnresolvedReference). e.name.0 ≡ slice_index names e.reference.0) us.pending
+  pub root_names : AllByRecursion (λ (k : RootReference). us.roots.get (the_name (slice_index names k.reference.0)) ≡ Some k.list) us.root
   pub root_numbers : NumbersRight us.roots us.root
   -- a resolved reference is in the list of a symbol that is there and has its name
-  pub resolved_there : All (λ (j : ResolvedReference). j.symbol.0 < length nm.symbols) us.resolved
-  pub resolved_names : All (λ (j : ResolvedReference). (symbol_row nm j.symbol.0).name.0 ≡ slice_index names j.reference.0) us.resolved
+  pub resolved_there : AllByRecursion (λ (j : ResolvedReference). j.symbol.0 < length nm.symbols) us.resolved
+  pub resolved_names : AllByRecursion (λ (j : ResolvedReference). (symbol_row nm j.symbol.0).name.0 ≡ slice_index names j.reference.0) us.resolved
   -- a row has a symbol exactly if it is in that symbol's resolved list, and the others have none
-  pub resolved_rows : All (λ (j : ResolvedReference). resolved_to us j.reference.0 ≡ Some j.symbol.0) us.resolved
+  pub resolved_rows : AllByRecursion (λ (j : ResolvedReference). resolved_to us j.reference.0 ≡ Some j.symbol.0) us.resolved
   pub symbol_rows : (r s : ℕ) → resolved_to us r ≡ Some s → sum_of of_resolved (one r) (resolved_list us s) ≡ 1
-  pub pending_rows : All (λ (e : UnresolvedReference). resolved_to us e.reference.0 ≡ None) us.pending
-  pub root_rows : All (λ (k : RootReference). resolved_to us k.reference.0 ≡ None) us.root
+  pub pending_rows : AllByRecursion (λ (e : UnresolvedReference). resolved_to us e.reference.0 ≡ None) us.pending
+  pub root_rows : AllByRecursion (λ (k : RootReference). resolved_to us k.reference.0 ≡ None) us.root
 
 abbrev pub Once : Type 0
 Once = (setting : ℕ) (cs : List Call) → Placed (accepted cs (answers (fresh setting) cs)) (run (fresh setting) cs).names (run (fresh setting) cs).uses

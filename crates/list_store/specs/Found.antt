@@ -1,6 +1,6 @@
 -- What a list of entries means, read from the first on.
 use Rattle.std.specs.Prelude.{◌≡◌, ℕ, zero, suc, ◌<◌, Bool, true, false, cond, List, [], ◌∷◌, take, Some, None, Option, MatchOption, slice_index_or}
-use Rattle.std.specs.List.{AllByRecursion as All}
+use Rattle.std.specs.List.{AllByRecursion}
 use Rattle.list_store.specs.declared.entry.Entry.{Entry}
 use Rattle.stores.specs.Pairs.{Pairs}
 
@@ -15,7 +15,7 @@ Apart {K} xs n = (i j : ℕ) (d : Entry K) → (i < j) × (j < n) × ((slice_ind
 
 -- No entry has the same key as k.
 abbrev pub Missing : {K : Type 0} → (K → K → Bool) → List (Entry K) → K → Type 0
-Missing e xs k = All (λ x. e k x.key ≡ false) xs
+Missing e xs k = AllByRecursion (λ x. e k x.key ≡ false) xs
 
 -- The i-th entry is the first whose key is the same as k.
 abbrev pub Hit : {K : Type 0} → (K → K → Bool) → List (Entry K) → K → ℕ → Type 0

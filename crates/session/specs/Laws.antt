@@ -1,6 +1,6 @@
 -- The laws, gathered: what holds of a binder after a list of calls from a fresh start, and of its answers.
 use Rattle.std.specs.Prelude.{◌≡◌, ℕ, true, false, List, [], ◌∷◌, ◌++◌, length, take, ◌≢◌}
-use Rattle.std.specs.List.{AllByRecursion as All}
+use Rattle.std.specs.List.{AllByRecursion}
 use Rattle.tables.specs.declared.row.UnresolvedReference.{UnresolvedReference}
 use Rattle.tables.specs.declared.row.ResolvedReference.{ResolvedReference}
 use Rattle.tables.specs.declared.row.RootReference.{RootReference}
@@ -58,7 +58,7 @@ pub record Lawful (setting : ℕ) (cs : List Call) (m : Machine) (given : List A
   pub get_identifier_reference : (c : Call) (e : UnresolvedReference) → e ∈ m.uses.pending → PlainValue (flags_now m e) → (e.name.0 ≢ 0)
       → OnlyValues setting cs e.name.0 → LookedUp m c e
   -- Early errors: with var, let, const and class alone, there is no conflict exactly if ECMA-262 has no early error
-  pub early_errors : All OfFour (declarations (fresh setting) cs) → EarlyRight m (declarations (fresh setting) cs)
+  pub early_errors : AllByRecursion OfFour (declarations (fresh setting) cs) → EarlyRight m (declarations (fresh setting) cs)
   -- Conflicts exactly: which symbol a declaration comes upon, and the conflict, redeclarations or symbol that it writes
   pub conflicts : Writes m
   -- Never full: the stores have room for every call that is granted
