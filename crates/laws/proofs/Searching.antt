@@ -9,7 +9,7 @@ use Rattle.model.specs.State.{Machine, flags_of}
 use Rattle.model.specs.Scopes.{parent_of, climb, chain, is_below, is_plain_function}
 use Rattle.model.specs.Declaring.{binding}
 use Rattle.model.specs.Resolving.{search, serving_in, serves, can_resolve, of_arguments, ends_at}
-use Rattle.laws.specs.FirstFit.{flags_now, ServesAt, NothingAt, Goes_on, FirstServing, serves_here, serves_above, NoneServing, none_last, none_above, PassedUp, passed_last, passed_above, Below, itself, child_of}
+use Rattle.laws.specs.FirstFit.{flags_now, ServesAt, NothingAt, GoesOn, FirstServing, serves_here, serves_above, NoneServing, none_last, none_above, PassedUp, passed_last, passed_above, Below, itself, child_of}
 use Rattle.laws.proofs.Basics.{bool_cases, option_cases, cond_is_true, cond_is_false, none≢some, some_inj}
 use Rattle.model.proofs.Chains.{at_chain_more}
 use Rattle.laws.proofs.Tree.{Tree}
@@ -70,10 +70,10 @@ module _ (m : Machine) (e : UnresolvedReference) where
       none≢some (look s) k h (ap (λ o. maybe o None tried) f.bound
       ∙ cond_is_true (good k) (Some k) None (serving_made (can_resolve flags (flags_of m.names k)) (of_arguments name flags) (meets (flags_of m.names k) FunctionExpression) f.can f.no_expression))
 
-  goes_on : (s p : ℕ) → parent_of rows s ≡ Some p → ends s ≡ false → Goes_on m e s p
+  goes_on : (s p : ℕ) → parent_of rows s ≡ Some p → ends s ≡ false → GoesOn m e s p
   goes_on s p n t = record { parent = n; no_end = not_both (of_arguments name flags) (is_plain_function rows s) t }
 
-  ended : (s p : ℕ) → ends s ≡ true → Goes_on m e s p → ⊥
+  ended : (s p : ℕ) → ends s ≡ true → GoesOn m e s p → ⊥
   ended s p t g =
       bool_cases (of_arguments name flags) ⊥
       (λ a. true≢false (sym t ∙ ap (λ b. b && is_plain_function rows s) a ∙ g.no_end a))

@@ -48,24 +48,24 @@ abbrev pub NothingAt : Machine → UnresolvedReference → ℕ → Type 0
 NothingAt m e s = (k : ℕ) → ServesAt m e s k → ⊥
 
 -- the lookup chain goes on from s to its parent p: that of an `arguments` ends with a function that has its own
-pub record Goes_on (m : Machine) (e : UnresolvedReference) (s p : ℕ) : Type 0 where
+pub record GoesOn (m : Machine) (e : UnresolvedReference) (s p : ℕ) : Type 0 where
   pub parent : parent_of m.scopes s ≡ Some p
   pub no_end : MeansArguments m e → is_plain_function m.scopes s ≡ false
 
 -- from s on, the first binding that serves is in the scope t, and leads to the symbol k
 pub data FirstServing (m : Machine) (e : UnresolvedReference) : ℕ → ℕ → ℕ → Type 0 where
   serves_here : {s k : ℕ} → ServesAt m e s k → FirstServing m e s s k
-  serves_above : {s p t k : ℕ} → NothingAt m e s → Goes_on m e s p → FirstServing m e p t k → FirstServing m e s t k
+  serves_above : {s p t k : ℕ} → NothingAt m e s → GoesOn m e s p → FirstServing m e p t k → FirstServing m e s t k
 
 -- from s on, no binding serves, and t is the last scope of the chain
 pub data NoneServing (m : Machine) (e : UnresolvedReference) : ℕ → ℕ → Type 0 where
-  none_last : {s : ℕ} → NothingAt m e s → ((p : ℕ) → Goes_on m e s p → ⊥) → NoneServing m e s s
-  none_above : {s p t : ℕ} → NothingAt m e s → Goes_on m e s p → NoneServing m e p t → NoneServing m e s t
+  none_last : {s : ℕ} → NothingAt m e s → ((p : ℕ) → GoesOn m e s p → ⊥) → NoneServing m e s s
+  none_above : {s p t : ℕ} → NothingAt m e s → GoesOn m e s p → NoneServing m e p t → NoneServing m e s t
 
 -- no binding serves from s up to the scope here, after which the chain goes on to p
 pub data PassedUp (m : Machine) (e : UnresolvedReference) (here p : ℕ) : ℕ → Type 0 where
-  passed_last : NothingAt m e here → Goes_on m e here p → PassedUp m e here p here
-  passed_above : {s q : ℕ} → NothingAt m e s → Goes_on m e s q → PassedUp m e here p q → PassedUp m e here p s
+  passed_last : NothingAt m e here → GoesOn m e here p → PassedUp m e here p here
+  passed_above : {s q : ℕ} → NothingAt m e s → GoesOn m e s q → PassedUp m e here p q → PassedUp m e here p s
 
 -- s is the scope here or one below it
 pub data Below (m : Machine) (here : ℕ) : ℕ → Type 0 where
