@@ -29,7 +29,7 @@ pub trait Key: Copy {
 
     ghost small: { (x : Self) → hash x < 2 ^ 32 };
 
-    /// Needed only since the type of a store cannot cite `same`, and so says by `≡` that its keys differ.
+    /// Needed only since the type of a store does not cite `same`, and says by `≡` that its keys differ.
     ghost exact: { (x y : Self) → same x y ≡ true → x ≡ y };
 }
 
