@@ -1,4 +1,4 @@
-ghost use Rattle.std.specs.Prelude.{◌≡◌, ltb, [], ◌∷◌, ◌++◌, length, take, IfOk, if◌then◌else◌, nat_lt, slice_index_or, slice_set};
+ghost use Rattle.std.specs.Prelude.{◌≡◌, [], ◌∷◌, ◌++◌, length, take, IfOk, if◌then◌else◌, nat_lt, slice_index_or, slice_set};
 ghost use Rattle.std.specs.List.{slice_get};
 ghost use Rattle.tables.specs.RowList.{rows};
 
@@ -43,7 +43,7 @@ impl<T: Copy, const N: usize> Rows<T, N> {
     /// Whether there was room for one row more.
     pub(crate) fn push(&mut self, row: T) -> bool
         ensures answer { result ≡ nat_lt (length (rows self.old)) N }
-        ensures after { rows self.new ≡ (if ltb (length (rows self.old)) N then rows self.old ++ row ∷ [] else rows self.old) }
+        ensures after { rows self.new ≡ (if nat_lt (length (rows self.old)) N then rows self.old ++ row ∷ [] else rows self.old) }
     {
         if self.items.len() >= N {
             return false;
