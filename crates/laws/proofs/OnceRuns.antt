@@ -1,4 +1,4 @@
--- Every run keeps the references in order; so the laws Once and Counts-right.
+-- Every run keeps the references in order; so the laws Once and CountsRight.
 use Rattle.std.proofs.Common.{◌≡◌, ℕ, ◌+◌, ◌<◌, ◌≤◌, true, false, cond, List, [], ◌∷◌, ◌++◌, length, get_or, Some, None, Option, sym, refl, ap, ◌∙◌, subst, ⊎_elim, append_assoc, append-nil, arith, length-append}
 use lib.ListN.{get_or-eq_default}
 use Rattle.std.proofs.lemmas.Bool.{true≢false, cases_lt}

@@ -33,7 +33,7 @@ name_given (DeclareReference r) = r.name.0 ∷ []
 name_given (ResolveReferences start) = []
 name_given ResolveAllReferences = []
 
--- the names that the granted calls of declare-reference gave, in order: the reference r has the r-th
+-- the names that the granted calls of declare_reference gave, in order: the reference r has the r-th
 abbrev pub accepted : List Call → List Answer → List ℕ
 accepted [] rest = []
 accepted (c ∷ cs) [] = []

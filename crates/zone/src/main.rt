@@ -111,7 +111,7 @@ fn run(rt: &HostRuntime) -> Result<(), Failure> {
     }
 }
 
-// No result is returned, since that would print it: what there is to say is said already.
+// No result is returned, since an error in it would be printed once more.
 fn main(rt: HostRuntime) -> ExitCode {
     match run(&rt) {
         Ok(()) => ExitCode::SUCCESS,

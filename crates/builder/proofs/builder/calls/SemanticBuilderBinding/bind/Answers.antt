@@ -43,8 +43,8 @@ returns-in_err-check_declaration g c =
     let r = c.in_err-check_declaration.field-0.0 in
     let full_by : ℕ → ℕ → Bool = no_room (length t.symbols) (length t.redeclarations) (length t.conflicts) in
     let told = no_room_told (full_by c.count.result c.reach_of-reach.result) r c.in_err-check_declaration.ensures in
-    let reach-is = c.reach_of-reach.ensures ∙ same_reach m d c.in_ok-checked.checked ok.1 in
-    let full : full_by m.names.hoisting.size (reach m d.kind) ≡ true = sym (ap (λ h. full_by h c.reach_of-reach.result) c.count.ensures ∙ ap (full_by m.names.hoisting.size) reach-is) ∙ told.0 in
+    let reach_is = c.reach_of-reach.ensures ∙ same_reach m d c.in_ok-checked.checked ok.1 in
+    let full : full_by m.names.hoisting.size (reach m d.kind) ≡ true = sym (ap (λ h. full_by h c.reach_of-reach.result) c.count.ensures ∙ ap (full_by m.names.hoisting.size) reach_is) ∙ told.0 in
     let e : refusal m (Bind d) ≡ Some DeclarationsFull = fit_by_room m d ok.0 ∙ ap (λ b. cond b (Some DeclarationsFull) None) full in
     let p = err_from_is_err_and c.from_residual-in_err-check_declaration.result c.from_residual-in_err-check_declaration.ensures.1 in
     record {
