@@ -3,15 +3,15 @@ ghost use Rattle.std.specs.Prelude.{◌≡◌, bit_and, bit_or, nat_le};
 ghost use Rattle.tables.specs.Flags.{meets, less, all_scope_flags, all_reference_flags};
 
 /// The flags of a scope.
-#[derive(Clone, Copy)]
+#[derive(Clone, Copy, PartialEq, Eq, Default)]
 pub struct ScopeFlags(pub u16);
 
 /// The flags of a symbol.
-#[derive(Clone, Copy)]
+#[derive(Clone, Copy, PartialEq, Eq, Default)]
 pub struct SymbolFlags(pub u32);
 
 /// The flags of a reference.
-#[derive(Clone, Copy)]
+#[derive(Clone, Copy, PartialEq, Eq, Default)]
 pub struct ReferenceFlags(pub u8);
 
 impl ScopeFlags {

@@ -1,23 +1,23 @@
 //! What rows are named by. Each id is a type of its own, so that one cannot stand for another.
 
 /// The number of a scope, counted from the root, which is 0.
-#[derive(Clone, Copy)]
+#[derive(Clone, Copy, PartialEq, Eq, Default)]
 pub struct ScopeId(pub u32);
 
 /// The number of a symbol, in order of declaration.
-#[derive(Clone, Copy)]
+#[derive(Clone, Copy, PartialEq, Eq, Default)]
 pub struct SymbolId(pub u32);
 
 /// The number of a reference, in order of declaration.
-#[derive(Clone, Copy)]
+#[derive(Clone, Copy, PartialEq, Eq, Default)]
 pub struct ReferenceId(pub u32);
 
 /// A node of the parser's syntax tree.
-#[derive(Clone, Copy)]
+#[derive(Clone, Copy, PartialEq, Eq, Default)]
 pub struct NodeId(pub u32);
 
 /// A name, numbered by the parser. `Name::ARGUMENTS` is the name `arguments`.
-#[derive(Clone, Copy)]
+#[derive(Clone, Copy, PartialEq, Eq, Default)]
 pub struct Name(pub u32);
 
 impl ScopeId {

@@ -2,7 +2,7 @@
 use crate::flags::{ReferenceFlags, ScopeFlags, SymbolFlags};
 use crate::id::{Name, NodeId, ReferenceId, ScopeId, SymbolId};
 
-#[derive(Clone, Copy)]
+#[derive(Clone, Copy, PartialEq, Eq, Default)]
 pub struct ScopeRow {
     /// None for the root.
     pub parent: Option<ScopeId>,
@@ -10,7 +10,7 @@ pub struct ScopeRow {
     pub flags: ScopeFlags,
 }
 
-#[derive(Clone, Copy)]
+#[derive(Clone, Copy, PartialEq, Eq, Default)]
 pub struct SymbolRow {
     pub name: Name,
     pub start: u32,
@@ -20,7 +20,7 @@ pub struct SymbolRow {
     pub node: NodeId,
 }
 
-#[derive(Clone, Copy)]
+#[derive(Clone, Copy, PartialEq, Eq, Default)]
 pub struct ReferenceRow {
     pub node: NodeId,
     pub flags: ReferenceFlags,
@@ -29,7 +29,7 @@ pub struct ReferenceRow {
 }
 
 /// One of several declarations of a symbol.
-#[derive(Clone, Copy)]
+#[derive(Clone, Copy, PartialEq, Eq)]
 pub struct Redeclaration {
     pub symbol: SymbolId,
     pub start: u32,
@@ -39,7 +39,7 @@ pub struct Redeclaration {
 }
 
 /// Two declarations of a name, of which the second may not stand beside the first.
-#[derive(Clone, Copy)]
+#[derive(Clone, Copy, PartialEq, Eq)]
 pub struct Conflict {
     pub name: Name,
     pub first_start: u32,
@@ -49,7 +49,7 @@ pub struct Conflict {
 }
 
 /// A reference that waits to be resolved, and the scope from which it is looked up.
-#[derive(Clone, Copy)]
+#[derive(Clone, Copy, PartialEq, Eq)]
 pub struct UnresolvedReference {
     pub name: Name,
     pub reference: ReferenceId,
@@ -57,14 +57,14 @@ pub struct UnresolvedReference {
 }
 
 /// A reference in the resolved list of a symbol.
-#[derive(Clone, Copy)]
+#[derive(Clone, Copy, PartialEq, Eq)]
 pub struct ResolvedReference {
     pub symbol: SymbolId,
     pub reference: ReferenceId,
 }
 
 /// A reference in a root unresolved list. The name of the list is kept in the root store alone.
-#[derive(Clone, Copy)]
+#[derive(Clone, Copy, PartialEq, Eq)]
 pub struct RootReference {
     pub list: u32,
     pub reference: ReferenceId,
