@@ -1,9 +1,8 @@
 -- What resolving leaves as it was: how many references there are, how many entries in the three lists together,
 -- and that every pending entry is of a reference that is there.
-use Rattle.std.proofs.Common.{◌≡◌, ℕ, zero, suc, ◌+◌, ◌<◌, List, [], ◌∷◌, ◌++◌, length, take, drop, Some, sym, refl, ap, ◌∙◌, subst, ⊎_elim, arith, length-append}
+use Rattle.std.proofs.Common.{◌≡◌, ℕ, zero, suc, ◌+◌, ◌<◌, List, [], ◌∷◌, ◌++◌, length, take, drop, Some, sym, refl, ap, ◌∙◌, subst, arith, length-append}
 use Rattle.std.specs.List.{slice_get}
 use Rattle.std.proofs.lemmas.List.{length_push, take-append-drop}
-use Rattle.std.proofs.lemmas.Bool.{cases_order}
 use Rattle.tables.proofs.Nths.{nth_below, nth_push_at, nth_push_below}
 use Rattle.tables.specs.declared.row.ScopeRow.{ScopeRow}
 use Rattle.tables.specs.declared.row.UnresolvedReference.{UnresolvedReference}
@@ -16,12 +15,7 @@ abbrev pub RefersBelow : ℕ → List UnresolvedReference → Type 0
 RefersBelow n ps = (k : ℕ) (e : UnresolvedReference) → slice_get ps k ≡ Some e → e.reference.0 < n
 
 pub waits_push : (n : ℕ) (ps : List UnresolvedReference) (p : UnresolvedReference) → RefersBelow n ps → p.reference.0 < n → RefersBelow n (ps ++ p ∷ [])
-waits_push n ps p h l k e q =
-    let m = length_push ps p in
-    ⊎_elim (λ (a : k ≡ length ps). let r : Some p ≡ Some e = sym (ap (slice_get (ps ++ p ∷ [])) a ∙ nth_push_at ps p) ∙ q in let b : p ≡ e = cc in subst (λ (x : UnresolvedReference). x.reference.0 < n) b l)
-    (⊎_elim (λ (a : k < length ps). h k e (sym (nth_push_below ps p k a) ∙ q))
-    (λ (a : length ps < k). let b = nth_below (ps ++ p ∷ []) k e q in absurd (omega arith)))
-    (cases_order k (length ps))
+waits_push n ps p h l k e q = grind (arith, h k e, length_push ps p, nth_push_at ps p, nth_push_below ps p k, nth_below (ps ++ p ∷ []) k e q)
 
 waits_take : (n : ℕ) (ps : List UnresolvedReference) (j : ℕ) → RefersBelow n ps → RefersBelow n (take j ps)
 waits_take n [] zero h k e q = h k e q

@@ -1,4 +1,3 @@
+pub mod Opened
 mod KeptUses
 mod Kept
-mod Refusing
-mod Binding

@@ -1,3 +1,3 @@
-pub mod Waiting
+pub mod Kept
 pub mod State
 pub mod Reading

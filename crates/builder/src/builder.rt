@@ -1,13 +1,11 @@
 //! The builder over the row tables and any three stores.
-ghost use Rattle.std.specs.Prelude.{◌≡◌, ◌+◌, ◌<◌, length};
-ghost use Rattle.tables.specs.Contents.{contents};
-ghost use Rattle.builder.specs.Waiting.{Waits};
+ghost use Rattle.builder.specs.Kept.{Kept};
 
+use lookup::name_tables::NameTables;
 use model::setting::Setting;
 use stores::key::ScopeAndName;
 use stores::store::Store;
 use tables::id::{Name, ScopeId};
-use tables::scoping::Scoping;
 
 mod calls;
 mod made;
@@ -15,15 +13,12 @@ mod parts;
 mod reads;
 
 /// Binds names: bindings, hoisted variables and the numbers of root unresolved lists are in the stores, all else is in the tables.
+// No `Model`: a machine's pairs are functions, which its value cannot hold, and clauses could not name the tables and stores that are handed out.
 #[derive(Drop)]
 pub struct SemanticBuilder<B: Store<ScopeAndName>, H: Store<ScopeAndName>, R: Store<Name>> {
     setting: Setting,
     current: ScopeId,
-    scoping: Scoping,
-    bindings: B,
-    hoisting: H,
+    names: NameTables<B, H>,
     roots: R,
-    ghost here: { current.0 < length (contents scoping).scopes },
-    ghost waits: { Waits (contents scoping) },
-    ghost counted: { length (contents scoping).pending + length (contents scoping).resolved + length (contents scoping).root ≡ length (contents scoping).references },
+    ghost kept: { Kept current.0 names.scoping },
 }

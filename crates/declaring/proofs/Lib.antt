@@ -1,2 +1,3 @@
+mod Kept
 mod Scans
-mod MovedOut
+mod Stored

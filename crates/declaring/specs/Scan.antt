@@ -1,16 +1,11 @@
 -- The scan of a var, one passed scope at a time.
-use Rattle.std.specs.Prelude.{ℕ, cond, List, [], ◌∷◌, Some, None, Option}
+use Rattle.std.specs.Prelude.{ℕ, cond, Some, None, Option}
 use Rattle.tables.specs.Flags.{meets, ByValue}
-use Rattle.tables.specs.Contents.{Contents}
 use Rattle.tables.specs.Ids.{symbol_number}
 use Rattle.tables.specs.declared.id.SymbolId.{SymbolId}
-use Rattle.stores.specs.Keys.{same_scope_and_name}
-use Rattle.stores.specs.Pairs.{Pairs, put}
-use Rattle.stores.specs.declared.key.ScopeAndName.{ScopeAndName}
-use Rattle.model.specs.Basics.{maybe, place}
+use Rattle.model.specs.Basics.{maybe}
 use Rattle.model.specs.State.{Names, flags_of}
 use Rattle.model.specs.Declaring.{Told, found, complain, add_symbol_redeclaration, move_binding}
-use Rattle.model.specs.View.{names_of}
 
 -- the names after one scope, and the symbol that stopped the scan there
 pub record Stepped : Type 0 where
@@ -29,10 +24,5 @@ stepped_at d to nm p s = cond (meets (flags_of nm s) ByValue) (stops d to nm p s
 abbrev pub stepped : Told → ℕ → Names → ℕ → Stepped
 stepped d to nm p = maybe (found nm p d.name) (goes_on nm) (stepped_at d to nm p)
 
-abbrev pub stepping : Contents → Pairs ScopeAndName → Pairs ScopeAndName → Option SymbolId → Stepped
-stepping c b h r = record { names = names_of c b h; stopped = symbol_number r }
-
--- a hoisted variable for each scope
-abbrev pub hoist_pairs : Pairs ScopeAndName → List ℕ → ℕ → ℕ → Pairs ScopeAndName
-hoist_pairs h [] name s = h
-hoist_pairs h (p ∷ ps) name s = hoist_pairs (put same_scope_and_name h (place p name) s) ps name s
+abbrev pub stepping : Names → Option SymbolId → Stepped
+stepping nm r = record { names = nm; stopped = symbol_number r }

@@ -1,6 +1,6 @@
 //! What a declaration does to the names. Its functions require the room that the call has tested.
 #![tactic(auto)]
 
-pub mod declare;
+mod declare;
 pub mod dispatch;
-pub mod hoist;
+mod hoist;

@@ -1,13 +1,13 @@
 -- What a write to a slot keeps of a hashed store's facts, and what it does to the pairs.
-use Rattle.std.proofs.Common.{◌≡◌, ℕ, zero, suc, pred, ◌+◌, ◌-◌, ◌%◌, ◌<◌, ◌≤◌, Bool, true, false, cond, ◌&&◌, eqb, ◌≢◌, List, [], ◌∷◌, length, get_or, set, is_some, Some, None, sym, refl, ap, ◌∙◌, subst, ap₂, inl, inr, le_of_suc-le-suc, not-suc-le-zero, add-one, sub-one, arith}
+use Rattle.std.proofs.Common.{◌≡◌, ℕ, zero, suc, pred, ◌+◌, ◌-◌, ◌%◌, ◌<◌, ◌≤◌, Bool, true, false, cond, ◌&&◌, eqb, ◌≢◌, List, [], ◌∷◌, length, get_or, replicate, set, is_some, Some, None, sym, refl, ap, ◌∙◌, subst, ap₂, inl, inr, le_of_suc-le-suc, not-suc-le-zero, add-one, sub-one, arith}
+use Rattle.std.specs.Cmp.{IsEquivalence}
 use Rattle.std.proofs.lemmas.List.{get_or-set_same, get_or-set_other, length-set}
 use Rattle.std.proofs.lemmas.Bool.{both_ways, cases_eq, cases_order, cases_Bool, and_parts, and_from, and_right, eq-eqb, eqb-true, cond-true, cond-false}
 use Rattle.hash_store.specs.declared.slot.Slot.{Slot}
 use Rattle.hash_store.specs.declared.slot.Slot.TheVariants.{Empty, Deleted, Full}
-use Rattle.stores.specs.Pairs.{put, drop_pair}
+use Rattle.stores.specs.Pairs.{no_pairs, put, drop_pair}
 use Rattle.hash_store.specs.Slots.{is_empty, is_full, matches, number_in, hash_in, held_by, taken, taken_within, spot, steps, Settled, Alike, Unlike, hashed}
-use Rattle.stores.proofs.Bools.{same_bools}
-use Rattle.hash_store.proofs.Slotted.{full_within, matches_full, matches_hash, unfull}
+use Rattle.hash_store.proofs.Slotted.{matches_full, matches_hash, unfull}
 
 -- ---- how many slots are full
 
@@ -64,12 +64,13 @@ taken_same xs i y l t =
 
 -- ---- a write to a slot
 
-pub alike_sym : {K : Type 0} (u v : Slot K) → Alike u v → Alike v u
-alike_sym Empty v h = absurd h
-alike_sym Deleted v h = absurd h
-alike_sym (Full k g n) Empty h = absurd h
-alike_sym (Full k g n) Deleted h = absurd h
-alike_sym (Full k g n) (Full l m o) h = (sym h.0, sym h.1)
+module _ {K : Type 0} (e : K → K → Bool) (laws : IsEquivalence e) where
+  pub alike_sym : (u v : Slot K) → Alike e u v → Alike e v u
+  alike_sym Empty v h = absurd h
+  alike_sym Deleted v h = absurd h
+  alike_sym (Full k g n) Empty h = absurd h
+  alike_sym (Full k g n) Deleted h = absurd h
+  alike_sym (Full k g n) (Full l m o) h = (sym h.0, laws.symm l k ∙ h.1)
 
 module _ {K : Type 0} (xs : List (Slot K)) (i : ℕ) (y : Slot K) (in' : i < length xs) where
   -- what holds of y, and of every slot, holds of every slot after
@@ -88,16 +89,26 @@ module _ {K : Type 0} (xs : List (Slot K)) (i : ℕ) (y : Slot K) (in' : i < len
       subst (λ m. Way m j (get_or (set xs i y) j Empty)) (sym n)
       (at_set (Way (length xs)) (λ h. kept (spot (length xs) (hash_in y % length xs) t) (way t h.0 h.1)) j (λ _ h. kept (spot (length xs) (hash_in (get_or xs j Empty) % length xs) t) (old j t h)))
 
-  pub unlike_set : ((j : ℕ) → j ≢ i → Alike y (get_or xs j Empty) → ⊥) → Unlike xs → Unlike (set xs i y)
-  unlike_set apart old a b h =
+  pub unlike_set : (e : K → K → Bool) (laws : IsEquivalence e) → ((j : ℕ) → j ≢ i → Alike e y (get_or xs j Empty) → ⊥) → Unlike e xs → Unlike e (set xs i y)
+  unlike_set e laws apart old a b h =
       elim (cases_eq a i) [
         | inl p ↦ let n : b ≢ i = omega arith in
-            apart b n (subst (λ z. Alike y z) (get_or-set_other xs i b y Empty n) (subst (λ z. Alike z (get_or (set xs i y) b Empty)) (ap (λ z. get_or (set xs i y) z Empty) p ∙ get_or-set_same xs i y Empty in') h.1))
+            apart b n (subst (λ z. Alike e y z) (get_or-set_other xs i b y Empty n) (subst (λ z. Alike e z (get_or (set xs i y) b Empty)) (ap (λ z. get_or (set xs i y) z Empty) p ∙ get_or-set_same xs i y Empty in') h.1))
         | inr n ↦ elim (cases_eq b i) [
-          | inl p ↦ apart a n (alike_sym (get_or xs a Empty) y (subst (λ z. Alike (get_or xs a Empty) z) (ap (λ z. get_or (set xs i y) z Empty) p ∙ get_or-set_same xs i y Empty in') (subst (λ z. Alike z (get_or (set xs i y) b Empty)) (get_or-set_other xs i a y Empty n) h.1)))
-          | inr m ↦ old a b (h.0, subst (λ z. Alike (get_or xs a Empty) z) (get_or-set_other xs i b y Empty m) (subst (λ z. Alike z (get_or (set xs i y) b Empty)) (get_or-set_other xs i a y Empty n) h.1))
+          | inl p ↦ apart a n (alike_sym e laws (get_or xs a Empty) y (subst (λ z. Alike e (get_or xs a Empty) z) (ap (λ z. get_or (set xs i y) z Empty) p ∙ get_or-set_same xs i y Empty in') (subst (λ z. Alike e z (get_or (set xs i y) b Empty)) (get_or-set_other xs i a y Empty n) h.1)))
+          | inr m ↦ old a b (h.0, subst (λ z. Alike e (get_or xs a Empty) z) (get_or-set_other xs i b y Empty m) (subst (λ z. Alike e z (get_or (set xs i y) b Empty)) (get_or-set_other xs i a y Empty n) h.1))
         ]
       ]
+
+module _ {K : Type 0} (xs : List (Slot K)) (i : ℕ) (in' : i < length xs) where
+  pub settled_deleted : Settled xs → Settled (set xs i Deleted)
+  settled_deleted = settled_set xs i Deleted in' refl (λ _ f _. absurd (both_ways false refl f))
+
+  pub unlike_deleted : (e : K → K → Bool) (laws : IsEquivalence e) → Unlike e xs → Unlike e (set xs i Deleted)
+  unlike_deleted e laws = unlike_set xs i Deleted in' e laws (λ _ _ a. a)
+
+  pub unlike_emptied : (e : K → K → Bool) (laws : IsEquivalence e) → Unlike e xs → Unlike e (set xs i Empty)
+  unlike_emptied e laws = unlike_set xs i Empty in' e laws (λ _ _ a. a)
 
 -- ---- what a search finds
 
@@ -118,8 +129,8 @@ module _ {K : Type 0} (e : K → K → Bool) (hash : K → ℕ) where
   held_set q (x ∷ xs) (suc i) y h g = ap (λ z. cond (matches e (hash q) q x) (Some (number_in x)) z) (held_set q xs i y h g)
 
   -- only one slot holds a key
-  pub only : (exact : (x y : K) → e x y ≡ true → x ≡ y) (q : K) (xs : List (Slot K)) (i : ℕ) → Unlike xs → matches e (hash q) q (get_or xs i Empty) ≡ true → (j : ℕ) → j ≢ i → matches e (hash q) q (get_or xs j Empty) ≡ false
-  only exact q xs i unlike h j n =
+  pub only : (laws : IsEquivalence e) (q : K) (xs : List (Slot K)) (i : ℕ) → Unlike e xs → matches e (hash q) q (get_or xs i Empty) ≡ true → (j : ℕ) → j ≢ i → matches e (hash q) q (get_or xs j Empty) ≡ false
+  only laws q xs i unlike h j n =
       elim (cases_Bool (matches e (hash q) q (get_or xs j Empty))) [
         | inr f ↦ f
         | inl m ↦ elim (cases_order i j) [
@@ -131,7 +142,7 @@ module _ {K : Type 0} (e : K → K → Bool) (hash : K → ℕ) where
         ]
       ]
     where
-      alike : (u v : Slot K) → matches e (hash q) q u ≡ true → matches e (hash q) q v ≡ true → Alike u v
+      alike : (u v : Slot K) → matches e (hash q) q u ≡ true → matches e (hash q) q v ≡ true → Alike e u v
       alike Empty v a b = both_ways false refl a
       alike Deleted v a b = both_ways false refl a
       alike (Full k g o) Empty a b = both_ways false refl b
@@ -139,29 +150,28 @@ module _ {K : Type 0} (e : K → K → Bool) (hash : K → ℕ) where
       alike (Full k g o) (Full l m p) a b =
           let a' = and_parts (eqb (hash q) g) (e q k) a in
           let b' = and_parts (eqb (hash q) m) (e q l) b in
-          (sym (eqb-true (hash q) g a'.0) ∙ eqb-true (hash q) m b'.0, sym (exact q k a'.1) ∙ exact q l b'.1)
+          (sym (eqb-true (hash q) g a'.0) ∙ eqb-true (hash q) m b'.0, sym (laws.congr q k l a'.1) ∙ b'.1)
 
   -- a slot that holds k's key holds none that is not the same
-  other_key : (symmetric : (x y : K) → e x y ≡ true → e y x ≡ true) (transitive : (x y z : K) → e x y ≡ true → e y z ≡ true → e x z ≡ true) (k q : K) (x : Slot K) → matches e (hash k) k x ≡ true → e q k ≡ false → matches e (hash q) q x ≡ false
-  other_key symmetric transitive k q Empty h f = refl
-  other_key symmetric transitive k q Deleted h f = refl
-  other_key symmetric transitive k q (Full l g n) h f =
-      and_right (eqb (hash q) g) (e q l) (elim (cases_Bool (e q l)) [ inr z ↦ z | inl t ↦ absurd (both_ways (e q k) f (transitive q l k t (symmetric k l (and_parts (eqb (hash k) g) (e k l) h).1))) ])
+  other_key : (laws : IsEquivalence e) (k q : K) (x : Slot K) → matches e (hash k) k x ≡ true → e q k ≡ false → matches e (hash q) q x ≡ false
+  other_key laws k q Empty h f = refl
+  other_key laws k q Deleted h f = refl
+  other_key laws k q (Full l g n) h f =
+      and_right (eqb (hash q) g) (e q l) (laws.symm q l ∙ sym (laws.congr k l q (and_parts (eqb (hash k) g) (e k l) h).1) ∙ laws.symm k q ∙ f)
 
-  module _ (reflexive : (x : K) → e x x ≡ true) (symmetric : (x y : K) → e x y ≡ true → e y x ≡ true) (transitive : (x y z : K) → e x y ≡ true → e y z ≡ true → e x z ≡ true) (hashes : (x y : K) → e x y ≡ true → hash x ≡ hash y) where
+  module _ (laws : IsEquivalence e) (hashes : (x y : K) → e x y ≡ true → hash x ≡ hash y) where
     -- keys that are the same are in the same slots
     same_slots : (k q : K) (x : Slot K) → e q k ≡ true → matches e (hash q) q x ≡ matches e (hash k) k x
     same_slots k q Empty t = refl
     same_slots k q Deleted t = refl
-    same_slots k q (Full l g n) t =
-        ap₂ (λ u v. eqb u g && v) (hashes q k t) (same_bools (e q l) (e k l) (λ h. transitive k q l (symmetric q k t) h) (λ h. transitive q k l t h))
+    same_slots k q (Full l g n) t = ap₂ (λ u v. eqb u g && v) (hashes q k t) (laws.congr q k l t)
 
     same_held : (k q : K) (xs : List (Slot K)) → e q k ≡ true → held_by e hash xs q ≡ held_by e hash xs k
     same_held k q [] t = refl
     same_held k q (x ∷ xs) t = ap₂ (λ b z. cond b (Some (number_in x)) z) (same_slots k q x t) (same_held k q xs t)
 
     full_match : (k : K) (v : ℕ) → matches e (hash k) k (Full k (hash k) v) ≡ true
-    full_match k v = and_from (eqb (hash k) (hash k)) (e k k) (eq-eqb (hash k) (hash k) refl) (reflexive k)
+    full_match k v = and_from (eqb (hash k) (hash k)) (e k k) (eq-eqb (hash k) (hash k) refl) (laws.refl k)
 
     pub held_put : (k : K) (v : ℕ) (xs : List (Slot K)) (i : ℕ) → i < length xs → ((j : ℕ) → j ≢ i → matches e (hash k) k (get_or xs j Empty) ≡ false) → ((q : K) → e q k ≡ false → matches e (hash q) q (get_or xs i Empty) ≡ false)
         → (q : K) → held_by e hash (set xs i (Full k (hash k) v)) q ≡ cond (e q k) (Some v) (held_by e hash xs q)
@@ -207,19 +217,19 @@ module _ {K : Type 0} (e : K → K → Bool) (hash : K → ℕ) where
         not_empty Deleted f = refl
         not_empty (Full l g n) f = refl
 
-    pub unlike_new : (k : K) (h v : ℕ) (xs : List (Slot K)) (i : ℕ) → h ≡ hash k → i < length xs → ((j : ℕ) → j ≢ i → matches e (hash k) k (get_or xs j Empty) ≡ false) → Unlike xs → Unlike (set xs i (Full k h v))
-    unlike_new k h v xs i is l others old = unlike_set xs i (Full k h v) l (λ j n a. both_ways (matches e (hash k) k (get_or xs j Empty)) (others j n) (met (get_or xs j Empty) a)) old
+    pub unlike_new : (k : K) (h v : ℕ) (xs : List (Slot K)) (i : ℕ) → h ≡ hash k → i < length xs → ((j : ℕ) → j ≢ i → matches e (hash k) k (get_or xs j Empty) ≡ false) → Unlike e xs → Unlike e (set xs i (Full k h v))
+    unlike_new k h v xs i is l others old = unlike_set xs i (Full k h v) l e laws (λ j n a. both_ways (matches e (hash k) k (get_or xs j Empty)) (others j n) (met (get_or xs j Empty) a)) old
       where
-        met : (x : Slot K) → Alike (Full k h v) x → matches e (hash k) k x ≡ true
+        met : (x : Slot K) → Alike e (Full k h v) x → matches e (hash k) k x ≡ true
         met Empty a = absurd a
         met Deleted a = absurd a
-        met (Full l g n) a = and_from (eqb (hash k) g) (e k l) (eq-eqb (hash k) g (sym is ∙ a.0)) (ap (e k) (sym a.1) ∙ reflexive k)
+        met (Full l g n) a = and_from (eqb (hash k) g) (e k l) (eq-eqb (hash k) g (sym is ∙ a.0)) a.1
 
-    module _ (exact : (x y : K) → e x y ≡ true → x ≡ y) (k : K) (h v n : ℕ) (xs : List (Slot K)) (i : ℕ) (is : h ≡ hash k) (in' : i < length xs) where
-      pub put_again : Unlike xs → matches e (hash k) k (get_or xs i Empty) ≡ true → hashed e hash n (set xs i (Full k h v)) ≡ put e (hashed e hash n xs) k v
+    module _ (k : K) (h v n : ℕ) (xs : List (Slot K)) (i : ℕ) (is : h ≡ hash k) (in' : i < length xs) where
+      pub put_again : Unlike e xs → matches e (hash k) k (get_or xs i Empty) ≡ true → hashed e hash n (set xs i (Full k h v)) ≡ put e (hashed e hash n xs) k v
       put_again unlike m =
-          let others = only exact k xs i unlike m in
-          let get : (q : K) → held_by e hash (set xs i (Full k h v)) q ≡ cond (e q k) (Some v) (held_by e hash xs q) = λ q. ap (λ z. held_by e hash (set xs i (Full k z v)) q) is ∙ held_put k v xs i in' others (λ p f. other_key symmetric transitive k p (get_or xs i Empty) m f) q in
+          let others = only laws k xs i unlike m in
+          let get : (q : K) → held_by e hash (set xs i (Full k h v)) q ≡ cond (e q k) (Some v) (held_by e hash xs q) = λ q. ap (λ z. held_by e hash (set xs i (Full k z v)) q) is ∙ held_put k v xs i in' others (λ p f. other_key laws k p (get_or xs i Empty) m f) q in
           let size : n ≡ cond (is_some (held_by e hash xs k)) n (suc n) = ap (λ o. cond (is_some o) n (suc n)) (sym (held_here k xs i m others)) in
           λ s. record { get = λ q. get q s; size = size s }
 
@@ -229,10 +239,10 @@ module _ {K : Type 0} (e : K → K → Bool) (hash : K → ℕ) where
           let size : n + 1 ≡ cond (is_some (held_by e hash xs k)) n (suc n) = add-one n ∙ ap (λ o. cond (is_some o) n (suc n)) (sym (held_none k xs none)) in
           λ s. record { get = λ q. get q s; size = size s }
 
-    pub drop_held : (exact : (x y : K) → e x y ≡ true → x ≡ y) (k : K) (n : ℕ) (xs : List (Slot K)) (i : ℕ) → i < length xs → Unlike xs → matches e (hash k) k (get_or xs i Empty) ≡ true → hashed e hash (n - 1) (set xs i Deleted) ≡ drop_pair e (hashed e hash n xs) k
-    drop_held exact k n xs i l unlike m =
-        let others = only exact k xs i unlike m in
-        let get : (q : K) → held_by e hash (set xs i Deleted) q ≡ cond (e q k) None (held_by e hash xs q) = λ q. held_drop k xs i l others (λ p f. other_key symmetric transitive k p (get_or xs i Empty) m f) q in
+    pub drop_held : (k : K) (n : ℕ) (xs : List (Slot K)) (i : ℕ) → i < length xs → Unlike e xs → matches e (hash k) k (get_or xs i Empty) ≡ true → hashed e hash (n - 1) (set xs i Deleted) ≡ drop_pair e (hashed e hash n xs) k
+    drop_held k n xs i l unlike m =
+        let others = only laws k xs i unlike m in
+        let get : (q : K) → held_by e hash (set xs i Deleted) q ≡ cond (e q k) None (held_by e hash xs q) = λ q. held_drop k xs i l others (λ p f. other_key laws k p (get_or xs i Empty) m f) q in
         let size : n - 1 ≡ cond (is_some (held_by e hash xs k)) (pred n) n = sub-one n ∙ ap (λ o. cond (is_some o) (pred n) n) (sym (held_here k xs i m others)) in
         λ s. record { get = λ q. get q s; size = size s }
 
@@ -242,29 +252,38 @@ module _ {K : Type 0} (e : K → K → Bool) (hash : K → ℕ) where
         let size : n ≡ cond (is_some (held_by e hash xs k)) (pred n) n = ap (λ o. cond (is_some o) (pred n) n) (sym (held_none k xs none)) in
         λ s. record { get = λ q. get q s; size = size s }
 
+-- a clone of an empty slot is empty
+pub only_empty : {K : Type 0} (IsClone : Slot K → Type 0) → (IsClone Deleted → ⊥) → ((k : K) (h n : ℕ) → IsClone (Full k h n) → ⊥) → (y : Slot K) → IsClone y → y ≡ Empty
+only_empty IsClone deleted full Empty is = refl
+only_empty IsClone deleted full Deleted is = absurd (deleted is)
+only_empty IsClone deleted full (Full k h n) is = absurd (full k h n is)
+
 -- ---- slots of which none is full
 
 module _ {K : Type 0} (xs : List (Slot K)) where
-  pub all_unfull : ((j : ℕ) → j < length xs → is_full (get_or xs j Empty) ≡ false) → (j : ℕ) → is_full (get_or xs j Empty) ≡ false
-  all_unfull all j = elim (cases_Bool (is_full (get_or xs j Empty))) [ inr f ↦ f | inl t ↦ all j (full_within xs j t) ]
-
   pub unfull_taken : taken xs ≡ 0 → (j : ℕ) → is_full (get_or xs j Empty) ≡ false
   unfull_taken z j = elim (cases_Bool (is_full (get_or xs j Empty))) [ inr f ↦ f | inl t ↦ let r = taken_some xs j t in absurd (omega arith) ]
+
+  pub hashed_unfull : ((j : ℕ) → is_full (get_or xs j Empty) ≡ false) → (e : K → K → Bool) (hash : K → ℕ) → hashed e hash 0 xs ≡ no_pairs
+  hashed_unfull none e hash = λ s. record { get = λ q. held_none e hash q xs (λ j. unfull e (hash q) q (get_or xs j Empty) (none j)) s; size = 0 }
 
   pub unfull_more : (i : ℕ) (y : Slot K) → i < length xs → is_full y ≡ false → ((j : ℕ) → j < i → is_full (get_or xs j Empty) ≡ false) → (j : ℕ) → j < i + 1 → is_full (get_or (set xs i y) j Empty) ≡ false
   unfull_more i y l f before j h = at_set xs i y l (λ _ z. is_full z ≡ false) f j (λ n. before j (omega arith))
 
-  module _ (none : (j : ℕ) → is_full (get_or xs j Empty) ≡ false) where
-    pub settled_unfull : Settled xs
-    settled_unfull j t h = absurd (both_ways (is_full (get_or xs j Empty)) (none j) h.0)
-
-    pub unlike_unfull : Unlike xs
-    unlike_unfull i j h = no_pair (get_or xs i Empty) (get_or xs j Empty) (none i) h.1
+  module _ (n : ℕ) (is : xs ≡ replicate n Empty) where
+    all_empty : (j : ℕ) → get_or xs j Empty ≡ Empty
+    all_empty j = ap (λ ys. get_or ys j Empty) is ∙ by n j
       where
-        no_pair : (x y : Slot K) → is_full x ≡ false → Alike x y → ⊥
-        no_pair Empty y f a = a
-        no_pair Deleted y f a = a
-        no_pair (Full k h n) y f a = both_ways true f refl
+        by : (m i : ℕ) → get_or {A = Slot K} (replicate m Empty) i Empty ≡ Empty
+        by zero i = refl
+        by (suc m) zero = refl
+        by (suc m) (suc i) = by m i
 
-    pub hashed_unfull : (e : K → K → Bool) (hash : K → ℕ) → hashed e hash 0 xs ≡ record { get = λ _. None; size = 0 }
-    hashed_unfull e hash = λ s. record { get = λ q. held_none e hash q xs (λ j. unfull e (hash q) q (get_or xs j Empty) (none j)) s; size = 0 }
+    pub unfull_filled : (j : ℕ) → is_full (get_or xs j Empty) ≡ false
+    unfull_filled j = ap is_full (all_empty j)
+
+    pub settled_filled : Settled xs
+    settled_filled j t h = absurd (both_ways (is_full (get_or xs j Empty)) (unfull_filled j) h.0)
+
+    pub unlike_filled : (e : K → K → Bool) → Unlike e xs
+    unlike_filled e i j h = subst (λ z. Alike e z (get_or xs j Empty) → ⊥) (sym (all_empty i)) (λ a. a) h.1

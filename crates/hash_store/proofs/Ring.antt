@@ -1,17 +1,11 @@
 -- Places in a ring of n: t steps behind home, and how many steps behind home a place is.
-use Rattle.std.proofs.Common.{◌≡◌, ℕ, ◌+◌, ◌<◌, ◌≤◌, cond, eqb, arith}
+use Rattle.std.proofs.Common.{◌≡◌, ℕ, ◌+◌, ◌<◌, ◌≤◌, arith}
 use Rattle.std.proofs.lemmas.Bool.Decides.{nat_tests}
 use Rattle.hash_store.specs.Slots.{spot, steps}
 
 module _ (n home : ℕ) (in' : home < n) where
-  pub spot_first : home ≡ spot n home 0
-  spot_first = grind (arith, nat_tests)
-
   pub spot_below : (t : ℕ) → t < n → spot n home t < n
   spot_below t h = grind (arith, nat_tests)
-
-  pub spot_next : (t : ℕ) → t < n → cond (eqb (spot n home t + 1) n) 0 (spot n home t + 1) ≡ spot n home (t + 1)
-  spot_next t h = grind (arith, nat_tests)
 
   pub steps_below : (j : ℕ) → j < n → steps n home j < n
   steps_below j h = grind (arith, nat_tests)
@@ -32,6 +26,3 @@ module _ (n home : ℕ) (in' : home < n) where
 
   pub steps_parts : (i j : ℕ) → i < n → j < n → steps n i j ≤ steps n home j → steps n home i + steps n i j ≡ steps n home j
   steps_parts i j a b h = grind (arith, nat_tests)
-
-pub next_below : (n at r : ℕ) → at < n → r ≡ cond (eqb (at + 1) n) 0 (at + 1) → r < n
-next_below n at r h e = grind (arith, nat_tests)

@@ -1,11 +1,10 @@
 -- What a write to a slot does to the pairs that the slots stand for.
-use Rattle.std.proofs.Common.{◌≡◌, ℕ, zero, suc, ◌+◌, ◌%◌, ◌<◌, Bool, true, false, cond, eqb, List, [], ◌∷◌, length, get_or, sym, refl, ap, ◌∙◌, subst, inl, inr, arith, below_more}
-use Rattle.std.proofs.lemmas.List.{get_or_read}
+use Rattle.std.proofs.Common.{◌≡◌, ℕ, zero, suc, ◌+◌, ◌%◌, ◌<◌, Bool, true, false, eqb, List, [], ◌∷◌, length, get_or, sym, refl, ap, ◌∙◌, subst, inl, inr, arith, below_more}
 use Rattle.std.proofs.lemmas.Bool.{both_ways, cases_eq, cases_lt, cases_Bool, and_parts, eqb-true}
 use Rattle.hash_store.specs.declared.slot.Slot.{Slot}
 use Rattle.hash_store.specs.declared.slot.Slot.TheVariants.{Empty, Deleted, Full}
 use Rattle.hash_store.specs.Slots.{is_empty, is_full, matches, hash_in, spot, steps, Settled}
-use Rattle.hash_store.proofs.Ring.{steps_below, spot_steps, spot_next, next_below}
+use Rattle.hash_store.proofs.Ring.{steps_below, spot_steps}
 
 -- a place past the end reads as an empty slot
 pub full_within : {K : Type 0} (xs : List (Slot K)) (j : ℕ) → is_full (get_or xs j Empty) ≡ true → j < length xs
@@ -67,11 +66,7 @@ module _ {K : Type 0} (e : K → K → Bool) where
       elim (cases_Bool (matches e g q (get_or xs j Empty))) [ inr f ↦ f | inl m ↦ all j (full_within xs j (matches_full g q (get_or xs j Empty) m)) ]
 
 -- one more step of a search round the ring
-pub step_more : {K : Type 0} (P : Slot K → Type 0) (xs : List (Slot K)) (home t at r : ℕ) (x : Slot K) → home < length xs → t < length xs → at < length xs → at ≡ spot (length xs) home t → r ≡ cond (eqb (at + 1) (length xs)) 0 (at + 1) → x ≡ get_or xs at x → P x
+pub step_more : {K : Type 0} (P : Slot K → Type 0) (xs : List (Slot K)) (home t at : ℕ) (x : Slot K) → at ≡ spot (length xs) home t → x ≡ get_or xs at Empty → P x
     → ((s : ℕ) → s < t → P (get_or xs (spot (length xs) home s) Empty))
-    → (r < length xs) × (r ≡ spot (length xs) home (t + 1)) × ((s : ℕ) → s < t + 1 → P (get_or xs (spot (length xs) home s) Empty))
-step_more P xs home t at r x l h a is next read here before = (
-  next_below (length xs) at r a next,
-  next ∙ ap (λ z. cond (eqb (z + 1) (length xs)) 0 (z + 1)) is ∙ spot_next (length xs) home l t h,
-  below_more (λ s. P (get_or xs (spot (length xs) home s) Empty)) t before (subst (λ z. P (get_or xs z Empty)) is (subst P (get_or_read xs at x a read Empty) here)),
-)
+    → (s : ℕ) → s < t + 1 → P (get_or xs (spot (length xs) home s) Empty)
+step_more P xs home t at x is read here before = below_more (λ s. P (get_or xs (spot (length xs) home s) Empty)) t before (subst (λ z. P (get_or xs z Empty)) is (subst P read here))

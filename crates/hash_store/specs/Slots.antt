@@ -60,17 +60,17 @@ Unpassed xs i = (j t : ℕ) → (is_full (slice_index_or xs j Empty) ≡ true) �
 abbrev pub Nearer : {K : Type 0} → List (Slot K) → ℕ → ℕ → Type 0
 Nearer xs i j = steps (length xs) (hash_in (slice_index_or xs j Empty) % length xs) i < steps (length xs) (hash_in (slice_index_or xs j Empty) % length xs) j
 
--- Two slots hold one key.
-abbrev pub Alike : {K : Type 0} → Slot K → Slot K → Type 0
-Alike Empty y = ⊥
-Alike Deleted y = ⊥
-Alike (Full k h n) Empty = ⊥
-Alike (Full k h n) Deleted = ⊥
-Alike (Full k h n) (Full l m o) = (h ≡ m) × (k ≡ l)
+-- Two slots hold the same key.
+abbrev pub Alike : {K : Type 0} → (K → K → Bool) → Slot K → Slot K → Type 0
+Alike e Empty y = ⊥
+Alike e Deleted y = ⊥
+Alike e (Full k h n) Empty = ⊥
+Alike e (Full k h n) Deleted = ⊥
+Alike e (Full k h n) (Full l m o) = (h ≡ m) × (e k l ≡ true)
 
--- No two slots hold one key.
-abbrev pub Unlike : {K : Type 0} → List (Slot K) → Type 0
-Unlike xs = (i j : ℕ) → (i < j) × Alike (slice_index_or xs i Empty) (slice_index_or xs j Empty) → ⊥
+-- No two slots hold the same key.
+abbrev pub Unlike : {K : Type 0} → (K → K → Bool) → List (Slot K) → Type 0
+Unlike e xs = (i j : ℕ) → (i < j) × Alike e (slice_index_or xs i Empty) (slice_index_or xs j Empty) → ⊥
 
 -- The pairs that n full slots stand for.
 abbrev pub hashed : {K : Type 0} → (K → K → Bool) → (K → ℕ) → ℕ → List (Slot K) → Pairs K

@@ -13,9 +13,10 @@ mod methods;
 #[derive(Drop)]
 pub struct HashStore<'a, K: Key> {
     slots: &'a mut [Slot<K>],
+    // A count beside the slots and no map: the memory is lent, and no store takes any.
     count: usize,
     ghost enough: { least_capacity ≤ length slots.now },
     ghost counted: { count ≡ taken slots.now },
     ghost settled: { Settled slots.now },
-    ghost different: { Unlike slots.now },
+    ghost different: { Unlike K.eq slots.now },
 }

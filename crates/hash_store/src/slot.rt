@@ -1,6 +1,6 @@
 //! A place of a hashed store.
 ghost use Rattle.std.specs.Prelude.{◌≡◌};
-ghost use Rattle.hash_store.specs.Slots.{is_empty, is_full, matches, number_in, hash_in};
+ghost use Rattle.hash_store.specs.Slots.{is_empty, is_full, matches};
 
 use stores::key::Key;
 
@@ -16,55 +16,26 @@ impl<K: Key> Slot<K> {
     pub(crate) fn is_empty(&self) -> bool
         ensures { result ≡ is_empty self.now }
     {
-        match *self {
-            Slot::Empty => true,
-            Slot::Deleted => false,
-            Slot::Full { .. } => false,
-        }
+        matches!(*self, Slot::Empty)
     }
 
     pub(crate) fn is_full(&self) -> bool
         ensures { result ≡ is_full self.now }
     {
-        match *self {
-            Slot::Empty => false,
-            Slot::Deleted => false,
-            Slot::Full { .. } => true,
-        }
-    }
-
-    pub(crate) fn number(&self) -> u32
-        ensures { result ≡ number_in self.now }
-    {
-        match *self {
-            Slot::Empty => 0,
-            Slot::Deleted => 0,
-            Slot::Full { number, .. } => number,
-        }
-    }
-
-    pub(crate) fn hash(&self) -> u32
-        ensures { result ≡ hash_in self.now }
-    {
-        match *self {
-            Slot::Empty => 0,
-            Slot::Deleted => 0,
-            Slot::Full { hash, .. } => hash,
-        }
+        matches!(*self, Slot::Full { .. })
     }
 
     /// Whether it holds the pair of `key`, whose hash number is `hash`.
     pub(crate) fn holds(&self, key: K, hash: u32) -> bool
-        ensures { result ≡ matches K.Key.same hash key self.now }
+        ensures { result ≡ matches K.eq hash key self.now }
     {
         match *self {
-            Slot::Empty => false,
-            Slot::Deleted => false,
             Slot::Full {
                 key: kept,
                 hash: kept_hash,
                 ..
-            } => hash == kept_hash && key.same_as(&kept),
+            } => hash == kept_hash && key == kept,
+            _ => false,
         }
     }
 }

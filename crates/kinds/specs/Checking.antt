@@ -22,7 +22,7 @@ unfit d =
 -- the same declaration
 pub record Same (d : Declaration) (c : Checked) : Type 0 where
   pub kind : number_of c.kind ≡ d.kind
-  pub modifiers : c.modifiers ≡ d.modifiers
+  pub modifiers : c.modifiers.0 ≡ d.modifiers
   pub name : c.name.0 ≡ d.name.0
   pub start : c.span.start ≡ d.start
   pub end : c.span.end ≡ d.end
@@ -40,12 +40,12 @@ tells_of c typescript strict =
       start = c.span.start;
       end = c.span.end;
       node = c.node.0;
-      includes = includes (number_of c.kind) c.modifiers;
-      excludes = excludes (number_of c.kind) c.modifiers typescript strict;
+      includes = includes (number_of c.kind) c.modifiers.0;
+      excludes = excludes (number_of c.kind) c.modifiers.0 typescript strict;
     }
 
 abbrev pub manner_of : Checked → Bool → Bool → Bool → Manner
-manner_of c typescript strict var = manner (number_of c.kind) c.modifiers typescript strict var
+manner_of c typescript strict var = manner (number_of c.kind) c.modifiers.0 typescript strict var
 
 -- how many scopes it may write to
 abbrev pub reach_of : Checked → List ScopeRow → ℕ → ℕ

@@ -1,3 +1,4 @@
+pub mod AllModifiers
 pub mod KindNumbers
 pub mod Telling
 pub mod Checking

@@ -4,4 +4,5 @@
 pub mod binder;
 pub mod checked;
 pub mod kind;
+pub mod modifiers;
 pub mod told;

@@ -5,6 +5,7 @@ use tables::span::Span;
 
 pub mod rows;
 
+// Name, span and node stand here as in `Checked`: a struct of the three would lengthen each read of them, and spare one copying.
 #[derive(Clone, Copy)]
 pub struct Told {
     pub name: Name,

@@ -1,7 +1,9 @@
 -- Small facts on options, tests, places and bits.
-use Rattle.std.proofs.Common.{◌≡◌, ℕ, zero, suc, ◌%◌, ◌<◌, Bool, true, false, cond, ◌&&◌, eqb, List, [], ◌∷◌, get_or, set, is_some, Some, None, Option, sym, refl, ap, ◌∙◌, subst, lt_of_le_of_lt, mod-eq_of_lt, arith}
-use lib.Bits.{bit_and, bit_or, and_mod, or_mod, and_zero_r, or_zero_r, and_le_r}
-use Rattle.std.proofs.lemmas.Bool.{eqb-true, eq-eqb, true≢false}
+use Rattle.std.proofs.Common.{◌≡◌, ℕ, zero, suc, Bool, true, false, eqb, List, [], ◌∷◌, get_or, set, is_some, Some, None, Option, sym, refl, ap, ◌∙◌}
+use lib.Bits.{bit_and, bit_or, and_zero_r}
+use Rattle.std.proofs.lemmas.Nat.{and_assoc, and_or_apart}
+use Rattle.std.proofs.lemmas.Bool.{eqb-true, eq-eqb, and_parts, and_from, true≢false}
+use Rattle.tables.specs.Flags.{DirectEval}
 use Rattle.stores.specs.Pairs.{Pairs}
 use Rattle.stores.specs.Keys.{same_scope_and_name}
 use Rattle.model.specs.Basics.{maybe, place}
@@ -19,11 +21,8 @@ pub option_cases : {X : Type 0} (o : Option X) (P : Type 0) → (o ≡ None → 
 option_cases None P a b = a refl
 option_cases (Some x) P a b = b x refl
 
-pub some_inj : {X : Type 0} (x y : X) → Some x ≡ Some y → x ≡ y
-some_inj x y e = cc
-
 pub none≢some : {X : Type 0} (o : Option X) (x : X) → o ≡ None → o ≡ Some x → ⊥
-none≢some o x p q = let z : ◌≡◌ {A = ℕ} 0 1 = cc in omega arith
+none≢some o x p q = cc
 
 pub is_some_from : {X : Type 0} (o : Option X) (x : X) → o ≡ Some x → is_some o ≡ true
 is_some_from o x e = ap is_some e
@@ -36,21 +35,11 @@ pub not_some : {X : Type 0} (o : Option X) → is_some o ≡ false → o ≡ Non
 not_some None e = refl
 not_some (Some x) e = absurd (true≢false e)
 
-pub cond_is_true : {X : Type 0} (b : Bool) (x y : X) → b ≡ true → cond b x y ≡ x
-cond_is_true true x y e = refl
-cond_is_true false x y e = absurd (true≢false (sym e))
-
-pub cond_is_false : {X : Type 0} (b : Bool) (x y : X) → b ≡ false → cond b x y ≡ y
-cond_is_false false x y e = refl
-cond_is_false true x y e = absurd (true≢false e)
-
 pub same_true : (a b : ℕ) (c d : ℕ) → same_scope_and_name (place a c) (place b d) ≡ true → (a ≡ b) × (c ≡ d)
-same_true a b c d e = bool_cases (eqb a b) ((a ≡ b) × (c ≡ d))
-    (λ p. (eqb-true a b p, eqb-true c d (subst (λ t. (t && eqb c d) ≡ true) p e)))
-    (λ p. absurd (true≢false (sym (subst (λ t. (t && eqb c d) ≡ true) p e))))
+same_true a b c d e = let p = and_parts (eqb a b) (eqb c d) e in (eqb-true a b p.0, eqb-true c d p.1)
 
 pub same_refl : (a c : ℕ) → same_scope_and_name (place a c) (place a c) ≡ true
-same_refl a c = subst (λ t. (t && eqb c c) ≡ true) (sym (eq-eqb a a refl)) (eq-eqb c c refl)
+same_refl a c = and_from (eqb a a) (eqb c c) (eq-eqb a a refl) (eq-eqb c c refl)
 
 -- a row put in place of another leaves a column as it is, if it has the same there
 pub set_keeps : {X : Type 0} {Y : Type 0} (g : X → Y) (d : X) (xs : List X) (i : ℕ) (v : X) (k : ℕ) → g v ≡ g (get_or xs i d) → g (get_or (set xs i v) k d) ≡ g (get_or xs k d)
@@ -60,15 +49,9 @@ set_keeps g d (x ∷ xs) zero v (suc k) e = refl
 set_keeps g d (x ∷ xs) (suc i) v zero e = refl
 set_keeps g d (x ∷ xs) (suc i) v (suc k) e = set_keeps g d xs i v k e
 
--- the flags that a scope is handed by a child leave its lower flags as they were
-low : (mask a : ℕ) → mask < 64 → bit_and a mask ≡ bit_and (a % 64) (mask % 64)
-low mask a h = sym (mod-eq_of_lt (lt_of_le_of_lt (and_le_r a mask) h)) ∙ and_mod a mask 6
-
-pub eval_apart : (mask : ℕ) → mask < 64 → (f g : ℕ) → bit_and (bit_or f (bit_and g 1024)) mask ≡ bit_and f mask
-eval_apart mask h f g =
-    low mask (bit_or f (bit_and g 1024)) h
-    ∙ ap (λ t. bit_and t (mask % 64)) (or_mod f (bit_and g 1024) 6 ∙ ap (bit_or (f % 64)) (and_mod g 1024 6 ∙ and_zero_r (g % 64)) ∙ or_zero_r (f % 64))
-    ∙ sym (low mask f h)
+-- the flag that a scope is handed by a child leaves a set of other flags as it was
+pub eval_apart : (set : ℕ) → bit_and DirectEval set ≡ 0 → (f g : ℕ) → bit_and (bit_or f (bit_and g DirectEval)) set ≡ bit_and f set
+eval_apart set none f g = and_or_apart set f (bit_and g DirectEval) (and_assoc set g DirectEval ∙ ap (bit_and g) none ∙ and_zero_r g)
 
 -- maps that hold the same, and as much, are one
 pub pairs_path : {K : Type 0} (p q : Pairs K) → ((k : K) → p.get k ≡ q.get k) → p.size ≡ q.size → p ≡ q

@@ -1,6 +1,7 @@
 -- The symbol that a declaration comes upon: there is at most one, and the tables say which.
 use Rattle.std.proofs.Common.{◌≡◌, ℕ, zero, suc, ◌<◌, false, ◌⊎◌, List, [], ◌∷◌, Some, None, Option, sym, refl, ap, ◌∙◌, subst, inl, inr, ⊎_elim, not-suc-le-zero, arith}
-use Rattle.std.proofs.lemmas.Bool.{true≢false}
+use Rattle.std.proofs.lemmas.Option.{same_Some}
+use Rattle.std.proofs.lemmas.Bool.{true≢false, cond-true, cond-false}
 use Rattle.tables.specs.Flags.{meets, TsConditional, FunctionExpression}
 use Rattle.tables.specs.declared.row.ScopeRow.{ScopeRow}
 use Rattle.model.specs.declared.call.Declaration.{Declaration}
@@ -9,7 +10,7 @@ use Rattle.model.specs.State.{Names, Machine, flags_of}
 use Rattle.model.specs.Scopes.{parent_of, flags_in, chain}
 use Rattle.model.specs.Declaring.{binding, hoisted, found, not_expression}
 use Rattle.laws.specs.Conflicts.{LeadsTo, Beside, Nearest, Nowhere, StoppedBy, Reaches, Var, Infer, MadeIn, ComesUpon, ToldApart, by_binding, by_hoisting, itself, above, at_top, nor_above, stopped_here, stopped_above, reached, passes, var_scope, conditional, no_conditional, current_scope, on_the_way, in_scope}
-use Rattle.laws.proofs.Basics.{bool_cases, option_cases, cond_is_true, cond_is_false, none≢some, some_inj}
+use Rattle.laws.proofs.Basics.{bool_cases, option_cases, none≢some}
 use Rattle.model.proofs.Chains.{at_chain_more, at_chain_top}
 use Rattle.laws.proofs.Tree.{Tree}
 
@@ -30,7 +31,7 @@ module _ (nm : Names) (s n : ℕ) where
 
   pub beside_found : (k : ℕ) → Beside nm s n k → found nm s n ≡ Some k
   unfolding found
-  beside_found k b = ap (λ o. maybe o None (not_expression nm)) (led_by k b.leads) ∙ cond_is_false (meets (flags_of nm k) FunctionExpression) None (Some k) b.no_expression
+  beside_found k b = ap (λ o. maybe o None (not_expression nm)) (led_by k b.leads) ∙ cond-false (meets (flags_of nm k) FunctionExpression) None (Some k) b.no_expression
 
   pub found_beside : (k : ℕ) → found nm s n ≡ Some k → Beside nm s n k
   unfolding found
@@ -39,15 +40,15 @@ module _ (nm : Names) (s n : ℕ) where
       (λ z. absurd (none≢some (found nm s n) k (ap (λ o. maybe o None (not_expression nm)) z) e))
       (λ j z. let q : not_expression nm j ≡ Some k = sym (ap (λ o. maybe o None (not_expression nm)) z) ∙ e in
       bool_cases (meets (flags_of nm j) FunctionExpression) (Beside nm s n k)
-      (λ t. absurd (none≢some (not_expression nm j) k (cond_is_true (meets (flags_of nm j) FunctionExpression) None (Some j) t) q))
-      (λ t. let jk : j ≡ k = some_inj j k (sym (cond_is_false (meets (flags_of nm j) FunctionExpression) None (Some j) t) ∙ q) in
+      (λ t. absurd (none≢some (not_expression nm j) k (cond-true (meets (flags_of nm j) FunctionExpression) None (Some j) t) q))
+      (λ t. let jk : j ≡ k = same_Some j k (sym (cond-false (meets (flags_of nm j) FunctionExpression) None (Some j) t) ∙ q) in
       record { leads = leads_from k (z ∙ ap Some jk); no_expression = subst (λ x. meets (flags_of nm x) FunctionExpression ≡ false) jk t }))
 
   pub none_beside : found nm s n ≡ None → (k : ℕ) → Beside nm s n k → ⊥
   none_beside e k b = none≢some (found nm s n) k e (beside_found k b)
 
   pub one_beside : (k j : ℕ) → Beside nm s n k → Beside nm s n j → k ≡ j
-  one_beside k j b c = some_inj k j (sym (beside_found k b) ∙ beside_found j c)
+  one_beside k j b c = same_Some k j (sym (beside_found k b) ∙ beside_found j c)
 
 -- the ways of a var
 module _ (rows : List ScopeRow) (nm : Names) (name : ℕ) where
@@ -55,19 +56,19 @@ module _ (rows : List ScopeRow) (nm : Names) (name : ℕ) where
   one_stop k j s (stopped_here _ v b val) (stopped_here _ v' b' val') = one_beside nm s name k j b b'
   one_stop k j s (stopped_here _ v b val) (stopped_above _ p v' lacks e r) = absurd (true≢false (sym val ∙ lacks k b))
   one_stop k j s (stopped_above _ p v lacks e r) (stopped_here _ v' b val) = absurd (true≢false (sym val ∙ lacks j b))
-  one_stop k j s (stopped_above _ p v lacks e r) (stopped_above _ p' v' lacks' e' r') = one_stop k j p r (subst (StoppedBy rows nm name j) (some_inj p' p (sym e' ∙ e)) r')
+  one_stop k j s (stopped_above _ p v lacks e r) (stopped_above _ p' v' lacks' e' r') = one_stop k j p r (subst (StoppedBy rows nm name j) (same_Some p' p (sym e' ∙ e)) r')
 
   no_reach : (k t s : ℕ) → StoppedBy rows nm name k s → Reaches rows nm name t s → ⊥
   no_reach k t s (stopped_here _ v b val) (reached v') = true≢false (sym v' ∙ v)
   no_reach k t s (stopped_here _ v b val) (passes _ p v' lacks e r) = true≢false (sym val ∙ lacks k b)
   no_reach k t s (stopped_above _ p v lacks e r) (reached v') = true≢false (sym v' ∙ v)
-  no_reach k t s (stopped_above _ p v lacks e r) (passes _ p' v' lacks' e' r') = no_reach k t p r (subst (Reaches rows nm name t) (some_inj p' p (sym e' ∙ e)) r')
+  no_reach k t s (stopped_above _ p v lacks e r) (passes _ p' v' lacks' e' r') = no_reach k t p r (subst (Reaches rows nm name t) (same_Some p' p (sym e' ∙ e)) r')
 
   one_reach : (t u s : ℕ) → Reaches rows nm name t s → Reaches rows nm name u s → t ≡ u
   one_reach t u s (reached v) (reached v') = refl
   one_reach t u s (reached v) (passes _ p v' lacks e r) = absurd (true≢false (sym v ∙ v'))
   one_reach t u s (passes _ p v lacks e r) (reached v') = absurd (true≢false (sym v' ∙ v))
-  one_reach t u s (passes _ p v lacks e r) (passes _ p' v' lacks' e' r') = one_reach t u p r (subst (Reaches rows nm name u) (some_inj p' p (sym e' ∙ e)) r')
+  one_reach t u s (passes _ p v lacks e r) (passes _ p' v' lacks' e' r') = one_reach t u p r (subst (Reaches rows nm name u) (same_Some p' p (sym e' ∙ e)) r')
 
 -- the nearest scope with a flag of a set
 module _ (rows : List ScopeRow) (set : ℕ) where
@@ -75,13 +76,13 @@ module _ (rows : List ScopeRow) (set : ℕ) where
   one_nearest t u s (itself v) (itself v') = refl
   one_nearest t u s (itself v) (above _ p v' e r) = absurd (true≢false (sym v ∙ v'))
   one_nearest t u s (above _ p v e r) (itself v') = absurd (true≢false (sym v' ∙ v))
-  one_nearest t u s (above _ p v e r) (above _ p' v' e' r') = one_nearest t u p r (subst (Nearest rows set u) (some_inj p' p (sym e' ∙ e)) r')
+  one_nearest t u s (above _ p v e r) (above _ p' v' e' r') = one_nearest t u p r (subst (Nearest rows set u) (same_Some p' p (sym e' ∙ e)) r')
 
   not_nowhere : (t s : ℕ) → Nearest rows set t s → Nowhere rows set s → ⊥
   not_nowhere t s (itself v) (at_top _ v' e) = true≢false (sym v ∙ v')
   not_nowhere t s (itself v) (nor_above _ p v' e r) = true≢false (sym v ∙ v')
   not_nowhere t s (above _ p v e r) (at_top _ v' e') = none≢some (parent_of rows s) p e' e
-  not_nowhere t s (above _ p v e r) (nor_above _ p' v' e' r') = not_nowhere t p r (subst (Nowhere rows set) (some_inj p' p (sym e' ∙ e)) r')
+  not_nowhere t s (above _ p v e r) (nor_above _ p' v' e' r') = not_nowhere t p r (subst (Nowhere rows set) (same_Some p' p (sym e' ∙ e)) r')
 
   module _ (tree : Tree rows) where
     -- the first of the chain, or another if there is none
@@ -92,13 +93,13 @@ module _ (rows : List ScopeRow) (set : ℕ) where
         option_cases (parent_of rows s) (Result s)
         (λ e. subst (λ c. Of c s) (sym (at_chain_top rows tree.lower (λ c. c) s e))
         (bool_cases (meets (flags_in rows s) set) (Of (s ∷ []) s)
-        (λ v. inl (subst (λ t. Nearest rows set t s) (sym (cond_is_true (meets (flags_in rows s) set) s other v)) (itself v)))
-        (λ v. inr (at_top s v e, cond_is_false (meets (flags_in rows s) set) s other v))))
+        (λ v. inl (subst (λ t. Nearest rows set t s) (sym (cond-true (meets (flags_in rows s) set) s other v)) (itself v)))
+        (λ v. inr (at_top s v e, cond-false (meets (flags_in rows s) set) s other v))))
         (λ p e. let l : p < s = tree.lower s p e in
         subst (λ c. Of c s) (sym (at_chain_more rows tree.lower (λ c. c) s p e))
         (bool_cases (meets (flags_in rows s) set) (Of (s ∷ chain rows p) s)
-        (λ v. inl (subst (λ t. Nearest rows set t s) (sym (cond_is_true (meets (flags_in rows s) set) s _ v)) (itself v)))
-        (λ v. let up = sym (cond_is_false (meets (flags_in rows s) set) s (first (λ q. meets (flags_in rows q) set) other (chain rows p)) v) in
+        (λ v. inl (subst (λ t. Nearest rows set t s) (sym (cond-true (meets (flags_in rows s) set) s _ v)) (itself v)))
+        (λ v. let up = sym (cond-false (meets (flags_in rows s) set) s (first (λ q. meets (flags_in rows q) set) other (chain rows p)) v) in
         ⊎_elim
         (λ n. inl (subst (λ t. Nearest rows set t s) up (above s p v e n)))
         (λ n. inr (nor_above s p v e n.0, sym up ∙ n.1))

@@ -1,5 +1,6 @@
 -- The law on early errors.
 use Rattle.std.proofs.Common.{◌≡◌, ℕ, suc, ◌<◌, true, false, ◌≢◌, ◌⊎◌, List, [], ◌∷◌, ◌++◌, length, Some, None, sym, refl, ap, ◌∙◌, subst, inl, inr, ⊎_elim, arith}
+use Rattle.std.proofs.lemmas.Option.{same_Some}
 use Rattle.std.proofs.lemmas.Bool.{true≢false}
 use Rattle.tables.specs.Flags.{meets}
 use Rattle.tables.specs.declared.row.ScopeRow.{ScopeRow}
@@ -12,7 +13,7 @@ use Rattle.model.specs.Declaring.{Declared, binding, complain, add_symbol_redecl
 use Rattle.model.specs.Calls.{told, bound}
 use Rattle.laws.specs.Conflicts.{by_binding, by_hoisting, NoValue, Reaches, reached, passes, Var}
 use Rattle.laws.specs.EarlyErrors.{Granted, OnWay, start, onward, IsLexical, Lexical, VarThrough, OneOf, EarlyError, OfFour}
-use Rattle.laws.proofs.Basics.{bool_cases, option_cases, none≢some, some_inj, is_some_from}
+use Rattle.laws.proofs.Basics.{bool_cases, option_cases, none≢some, is_some_from}
 use Rattle.laws.proofs.Sound.{Sound, Binds, found_cases, make_binds, move_stays}
 use Rattle.laws.proofs.Runs.{Good}
 use Rattle.laws.proofs.ComesUpon.{beside_found, found_beside}
@@ -38,8 +39,8 @@ abbrev pub Early : List ScopeRow → Names → List Granted → Type 0
 Early rows nm ds = Clear rows nm ds ⊎ ((nm.conflicts ≢ []) × ((s n : ℕ) × EarlyError ds s n))
 
 pub snoc_not_nil : (xs : List Conflict) (y : Conflict) → (xs ++ y ∷ []) ≢ []
-snoc_not_nil [] y e = let z : ◌≡◌ {A = ℕ} 0 1 = cc in omega arith
-snoc_not_nil (x ∷ xs) y e = let z : ◌≡◌ {A = ℕ} 0 1 = cc in omega arith
+snoc_not_nil [] y e = cc
+snoc_not_nil (x ∷ xs) y e = cc
 
 pub more_error : (ds ys : List Granted) (s n : ℕ) → EarlyError ds s n → EarlyError (ds ++ ys) s n
 more_error ds ys s n e =
@@ -98,13 +99,13 @@ module _ (rows : List ScopeRow) (nm : Names) (ds : List Granted) (h : Sound rows
   stop_free : (n p k s : ℕ) → Stops rows nm n p k s → meets (flags_of nm k) Lex ≡ false → (q : ℕ) → OnWay rows q s → OneOf (Lexical q n) ds → ⊥
   stop_free n p k s (at_once v e val) lex q w o = c.no_error q n (inr (o, c.upward p q n (found_var p n k e lex) w))
   stop_free n p k s (higher _ u v lacks e r) lex q start o = free_lexical s n (no_value_none s n lacks) o
-  stop_free n p k s (higher _ u v lacks e r) lex q (onward _ u' v' e' w) o = stop_free n p k u r lex q (subst (OnWay rows q) (some_inj u' u (sym e' ∙ e)) w) o
+  stop_free n p k s (higher _ u v lacks e r) lex q (onward _ u' v' e' w) o = stop_free n p k u r lex q (subst (OnWay rows q) (same_Some u' u (sym e' ∙ e)) w) o
 
   reach_free : (n t s : ℕ) → Reaches rows nm n t s → (OneOf (Lexical t n) ds → ⊥) → (q : ℕ) → OnWay rows q s → OneOf (Lexical q n) ds → ⊥
   reach_free n t s (reached v) at_t q start o = at_t o
   reach_free n t s (reached v) at_t q (onward _ u v' e w) o = true≢false (sym v ∙ v')
   reach_free n t s (passes _ u v lacks e r) at_t q start o = free_lexical s n (no_value_none s n lacks) o
-  reach_free n t s (passes _ u v lacks e r) at_t q (onward _ u' v' e' w) o = reach_free n t u r at_t q (subst (OnWay rows q) (some_inj u' u (sym e' ∙ e)) w) o
+  reach_free n t s (passes _ u v lacks e r) at_t q (onward _ u' v' e' w) o = reach_free n t u r at_t q (subst (OnWay rows q) (same_Some u' u (sym e' ∙ e)) w) o
 
 stop_way : (rows : List ScopeRow) (nm : Names) (n p k s : ℕ) → Stops rows nm n p k s → OnWay rows p s
 stop_way rows nm n p k s (at_once v e val) = start

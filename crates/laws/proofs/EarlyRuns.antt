@@ -1,5 +1,6 @@
 -- The law on early errors, over runs.
-use Rattle.std.proofs.Common.{◌≡◌, ℕ, false, not, eqb, ◌≢◌, List, [], ◌∷◌, ◌++◌, None, sym, refl, ap, ◌∙◌, subst, inl, inr, ⊎_elim, append_assoc, append-nil, not-suc-le-zero, arith, lit<}
+use Rattle.std.proofs.Common.{◌≡◌, ℕ, false, not, eqb, ◌≢◌, List, [], ◌∷◌, ◌++◌, None, sym, refl, ap, ◌∙◌, subst, inl, inr, ⊎_elim, append_assoc, append-nil, not-suc-le-zero, arith}
+use Rattle.std.proofs.lemmas.Bool.{cond-true, cond-false}
 use Rattle.std.specs.List.{AllByRecursion}
 use Rattle.tables.specs.Flags.{meets, VarScope}
 use Rattle.tables.specs.declared.row.ScopeRow.{ScopeRow}
@@ -9,14 +10,15 @@ use Rattle.model.specs.declared.call.Declaration.{Declaration}
 use Rattle.model.specs.State.{Names, Machine, fresh, flags_of}
 use Rattle.model.specs.Scopes.{flags_in}
 use Rattle.model.specs.Declaring.{Told}
-use Rattle.model.specs.Calls.{bound, granted, after, answer, refusal, run, child, handed, parent_here}
+use Rattle.model.specs.Calls.{bound, granted, after, answer, run, child, handed, parent_here}
 use Rattle.laws.specs.Conflicts.{Again, Outcome, stopped, united, made, was_granted, is_bind}
 use Rattle.laws.specs.EarlyErrors.{Granted, granted_by, declarations, OfFour, EarlyErrors}
-use Rattle.laws.proofs.Basics.{maybe_both, bool_cases, none≢some, cond_is_true, cond_is_false, eval_apart}
+use Rattle.laws.proofs.Basics.{bool_cases, none≢some, eval_apart}
 use Rattle.laws.proofs.Tree.{Tree, Kept, kept_push, kept_set}
 use Rattle.laws.proofs.Runs.{Good, fresh_good, after_good}
 use Rattle.laws.proofs.Forms.{form, Ranged, after_ranged, fresh_ranged}
-use Rattle.laws.proofs.Outcomes.{form_outcome, after_granted, granted_no_refusal, after_refused, other_names}
+use Rattle.laws.proofs.Granting.{granted_after, after_keeps}
+use Rattle.laws.proofs.Outcomes.{form_outcome, granted_no_refusal, after_refused, other_names}
 use Rattle.laws.proofs.Ways.{var_inside, way_kept}
 use Rattle.laws.proofs.Early.{Early, snoc_not_nil, more_error, four_step}
 
@@ -30,15 +32,14 @@ unfolding granted
 granted_kept m (EnterScope s) = kept_push m.scopes (child m.scopes m.current s)
 granted_kept m LeaveScope =
     let p = parent_here m in
-    kept_set m.scopes p (handed m.scopes m.current p) refl (ap (λ b. not (eqb b 0)) (eval_apart VarScope (lit< tt) (flags_in m.scopes p) (flags_in m.scopes m.current)))
+    kept_set m.scopes p (handed m.scopes m.current p) refl (ap (λ b. not (eqb b 0)) (eval_apart VarScope refl (flags_in m.scopes p) (flags_in m.scopes m.current)))
 granted_kept m (Bind d) = kept_self m.scopes
 granted_kept m (DeclareReference r) = kept_self m.scopes
 granted_kept m (ResolveReferences start) = kept_self m.scopes
 granted_kept m ResolveAllReferences = kept_self m.scopes
 
 after_kept : (m : Machine) (c : Call) → Kept m.scopes (after m c).scopes
-unfolding after
-after_kept m c = maybe_both (refusal m c) (granted m c) (λ _. m) (λ x. Kept m.scopes x.scopes) (λ _. granted_kept m c) (λ _ _. kept_self m.scopes)
+after_kept m c = after_keeps m c (λ x. Kept m.scopes x.scopes) (λ _. granted_kept m c) (kept_self m.scopes)
 
 early_kept : (rows rows' : List ScopeRow) (nm : Names) (ds : List Granted) → Tree rows → Kept rows rows' → Early rows nm ds → Early rows' nm ds
 early_kept rows rows' nm ds tree kept e =
@@ -81,10 +82,10 @@ unfolding granted
 bind_early m d ds good g four e =
     bool_cases (was_granted (answer m (Bind d))) (Early (after m (Bind d)).scopes (after m (Bind d)).names (ds ++ granted_by m (Bind d)))
     (λ yes.
-    let it = cond_is_true (was_granted (answer m (Bind d))) (x ∷ []) [] yes in
+    let it = cond-true (was_granted (answer m (Bind d))) (x ∷ []) [] yes in
     let four' : AllByRecursion OfFour (x ∷ []) = subst (AllByRecursion OfFour) it four in
     subst (λ ys. Early (after m (Bind d)).scopes (after m (Bind d)).names (ds ++ ys)) (sym it)
-    (subst (λ (y : Machine). Early y.scopes y.names (ds ++ x ∷ [])) (sym (after_granted m (Bind d) (granted_no_refusal m (Bind d) yes)))
+    (subst (λ (y : Machine). Early y.scopes y.names (ds ++ x ∷ [])) (sym (granted_after m (Bind d) (granted_no_refusal m (Bind d) yes)))
     (⊎_elim
     (λ c. four_step m d good g ds c four'.0 (form m d good))
     (λ bad. inr (
@@ -93,7 +94,7 @@ bind_early m d ds good g four e =
     ))
     e)))
     (λ no_grant.
-    subst (λ ys. Early (after m (Bind d)).scopes (after m (Bind d)).names (ds ++ ys)) (sym (cond_is_false (was_granted (answer m (Bind d))) (x ∷ []) [] no_grant))
+    subst (λ ys. Early (after m (Bind d)).scopes (after m (Bind d)).names (ds ++ ys)) (sym (cond-false (was_granted (answer m (Bind d))) (x ∷ []) [] no_grant))
     (subst (λ (y : Machine). Early y.scopes y.names (ds ++ [])) (sym (after_refused m (Bind d) no_grant)) (subst (Early m.scopes m.names) (sym (append-nil ds)) e)))
   where
     x : Granted

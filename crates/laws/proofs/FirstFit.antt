@@ -5,20 +5,19 @@ use lib.Seq.{drop-length, take-length}
 use Rattle.std.proofs.lemmas.Bool.{cond_both, true≢false, eqb-true, eq-eqb}
 use Rattle.std.proofs.lemmas.Bool.Decides.{nat_tests}
 use Rattle.std.specs.List.{AllByRecursion}
-use Rattle.tables.specs.declared.refusal.Refusal.{Refusal}
 use Rattle.tables.specs.declared.refusal.Refusal.TheVariants.{AtRoot, StartPastPending}
 use Rattle.tables.specs.declared.row.ScopeRow.{ScopeRow}
 use Rattle.tables.specs.declared.row.UnresolvedReference.{UnresolvedReference}
 use Rattle.model.specs.declared.call.Call.{Call}
-use Rattle.model.specs.declared.call.Call.TheVariants.{EnterScope, LeaveScope, Bind, DeclareReference, ResolveReferences, ResolveAllReferences}
-use Rattle.model.specs.declared.call.Answer.TheVariants.{Refused}
+use Rattle.model.specs.declared.call.Call.TheVariants.{EnterScope, LeaveScope, Bind, DeclareReference, ResolveReferences}
 use Rattle.model.specs.Basics.{maybe}
 use Rattle.model.specs.State.{Machine, Names, Uses, fresh, use_flags}
 use Rattle.model.specs.Scopes.{parent_of, chain, is_below}
 use Rattle.model.specs.Resolving.{resolve_to, list_at_root, stay, settle_all, keep_pending, search, lookup_chain, chain_up_to, has_ended, fate_here, fate_at_end, resolve_here, resolve_end}
-use Rattle.model.specs.Calls.{refusal, granted, granted_answer, after, answer, run, with_uses}
+use Rattle.model.specs.Calls.{refusal, granted, after, answer, run, with_uses}
 use Rattle.laws.specs.FirstFit.{Granted, Below, Settles, FirstFitRight, FirstFit}
 use Rattle.laws.proofs.Basics.{maybe_both, bool_cases, option_cases, none≢some}
+use Rattle.laws.proofs.Granting.{granted_after, after_keeps, refused_answers, refused_after, refused_by_answer}
 use Rattle.laws.proofs.Runs.{Good, run_good, fresh_good}
 use Rattle.laws.proofs.Searching.{first_from, none_from, part_first, part_ended, part_passed, below_is, below_high}
 use Rattle.laws.proofs.Single.{KeptSingle, taken_single, run_single, fresh_single}
@@ -45,40 +44,13 @@ all_of P h (x ∷ xs) = (h x, all_of P h xs)
 
 -- granted and refused, by the answer
 is_granted : (m : Machine) (c : Call) → Granted m c → refusal m c ≡ None
-unfolding answer
-is_granted m c g =
-    option_cases (refusal m c) (refusal m c ≡ None) (λ h. h) (λ r h. absurd (g r (ap (λ o. maybe o (granted_answer m c) Refused) h)))
-
-no_answer_refuses : (m : Machine) (c : Call) (r : Refusal) → granted_answer m c ≡ Refused r → ⊥
-unfolding granted_answer
-no_answer_refuses m (EnterScope x) r h = let z : ◌≡◌ {A = ℕ} 0 1 = cc in omega arith
-no_answer_refuses m LeaveScope r h = let z : ◌≡◌ {A = ℕ} 0 1 = cc in omega arith
-no_answer_refuses m (Bind d) r h = let z : ◌≡◌ {A = ℕ} 0 1 = cc in omega arith
-no_answer_refuses m (DeclareReference x) r h = let z : ◌≡◌ {A = ℕ} 0 1 = cc in omega arith
-no_answer_refuses m (ResolveReferences start) r h = let z : ◌≡◌ {A = ℕ} 0 1 = cc in omega arith
-no_answer_refuses m ResolveAllReferences r h = let z : ◌≡◌ {A = ℕ} 0 1 = cc in omega arith
-
-is_refused : (m : Machine) (c : Call) (r : Refusal) → answer m c ≡ Refused r → (n : Refusal) × (refusal m c ≡ Some n)
-unfolding answer
-is_refused m c r h =
-    option_cases (refusal m c) ((n : Refusal) × (refusal m c ≡ Some n))
-    (λ q. absurd (no_answer_refuses m c r (sym (ap (λ o. maybe o (granted_answer m c) Refused) q) ∙ h)))
-    (λ n q. (n, q))
+is_granted m c g = option_cases (refusal m c) (refusal m c ≡ None) (λ h. h) (λ r h. absurd (g r (refused_answers m c r h)))
 
 pub granted_is : (m : Machine) (c : Call) → refusal m c ≡ None → Granted m c
-unfolding answer
-granted_is m c h r q = no_answer_refuses m c r (sym (ap (λ o. maybe o (granted_answer m c) Refused) h) ∙ q)
-
-pub refused_is : (m : Machine) (c : Call) (n : Refusal) → refusal m c ≡ Some n → after m c ≡ m
-unfolding after
-refused_is m c n h = ap (λ o. maybe o (granted m c) (λ r. m)) h
+granted_is m c h r e = none≢some (refusal m c) r h (refused_by_answer m c r e)
 
 pub after_granted : (m : Machine) (c : Call) → Granted m c → after m c ≡ granted m c
-unfolding after
-after_granted m c g = ap (λ o. maybe o (granted m c) (λ n. m)) (is_granted m c g)
-
-pub after_refused : (m : Machine) (c : Call) (r : Refusal) → answer m c ≡ Refused r → after m c ≡ m
-after_refused m c r h = let n = is_refused m c r h in refused_is m c n.0 n.1
+after_granted m c g = granted_after m c (is_granted m c g)
 
 module _ (m : Machine) (good : Good m) (single : KeptSingle m) where
   abbrev rows : List ScopeRow
@@ -168,8 +140,7 @@ module _ (m : Machine) (good : Good m) (single : KeptSingle m) where
   none_at_all (p ∷ ps) h = absurd (h p (Memᴰ.head refl) tt)
 
   untouched : (c : Call) → (granted m c).uses ≡ m.uses → (after m c).uses ≡ m.uses
-  unfolding after
-  untouched c h = maybe_both (refusal m c) (granted m c) (λ n. m) (λ (x : Machine). x.uses ≡ m.uses) (λ _. h) (λ n _. refl)
+  untouched c h = after_keeps m c (λ (x : Machine). x.uses ≡ m.uses) (λ _. h) refl
 
   none_to_settle : Granted m (ResolveReferences (length m.uses.pending)) × (after m (ResolveReferences (length m.uses.pending)) ≡ m)
   unfolding refusal answer granted resolve_here settle_all
@@ -196,7 +167,7 @@ module _ (m : Machine) (good : Good m) (single : KeptSingle m) where
         enter_scope = λ s. untouched (EnterScope s) refl;
         leave_scope = untouched LeaveScope refl;
         bind = λ d. untouched (Bind d) refl;
-        refused = after_refused m;
+        refused = λ c r e. refused_after m c r (refused_by_answer m c r e);
       }
 
 pub first_fit : FirstFit

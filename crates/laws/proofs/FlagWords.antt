@@ -1,6 +1,7 @@
 -- The words on flags are the flag arithmetic.
 use Rattle.std.proofs.Common.{◌≡◌, ℕ, ◌^◌, Bool, true, false, cond, not, ◌&&◌, ◌||◌, eqb, List, [], ◌∷◌, sym, refl, ap, ◌∙◌, subst, ap₂, ⊎_elim}
 use lib.Bits.{bit_or}
+use Rattle.std.proofs.Math.Bool.{and-true, or-false, or-true}
 use Rattle.std.proofs.lemmas.Bool.{eqb-true, true≢false, and_parts, and_from, and_left, and_right, or_parts, or_left, or_right, or_from, or_cases, cond-true, cond-false}
 use Rattle.tables.specs.Flags.{meets, less, Read, Write, TypeUse, ValueAsType, NamespaceUse, ValueUse, ByValue, ByType, ByValueAsType, ByNamespace, Import, TypeImport, RegularEnum, ConstEnum, Class, TypeAlias, Interface, EnumMember, TypeParameter, FunctionScopedVariable, Ambient, AsyncOrGenerator}
 use Rattle.model.specs.Kinds.{Declare, Async, IfBody, Unique, kind_row}
@@ -36,14 +37,6 @@ any_way u s =
     (in_front (meets u NamespaceUse) (meets u ValueAsType) (meets s ByNamespace) ∙ λ i. not (n i) || t i || m i)
     (λ i. v i && a i || y i && b i || t i && c i)
 
-and_true : (b : Bool) → (b && true) ≡ b
-and_true true = refl
-and_true false = refl
-
-or_none : (b : Bool) → (b || false) ≡ b
-or_none true = refl
-or_none false = refl
-
 -- the flags of one list are among those of another
 inside : List ℕ → List ℕ → Bool
 inside [] gs = true
@@ -74,28 +67,24 @@ unfolding reach
 can_resolve_to =
     record {
       a_value = λ u s h. any_way u s ∙ (λ i. reach (h.not_in_front i) (h.no_typeof i) (has_members s) (h.uses i) (is_value s) (h.no_type i) (is_type s) (has_typeof s))
-          ∙ or_none (is_value s || false) ∙ or_none (is_value s);
+          ∙ or-false (is_value s || false) ∙ or-false (is_value s);
       a_type = λ u s h. any_way u s ∙ (λ i. reach (h.not_in_front i) (h.no_typeof i) (has_members s) (h.no_value i) (is_value s) (h.uses i) (is_type s) (has_typeof s))
-          ∙ or_none (is_type s);
+          ∙ or-false (is_type s);
       a_typeof = λ u s h. any_way u s ∙ (λ i. reach (has u NamespaceUse) (h.uses i) (has_members s) (h.no_value i) (is_value s) (h.no_type i) (is_type s) (has_typeof s))
-          ∙ ap (λ b. (b || has_members s) && has_typeof s) (or_true (not (has u NamespaceUse)));
+          ∙ ap (λ b. (b || has_members s) && has_typeof s) (or-true (not (has u NamespaceUse)));
       a_front_of_type = λ u s h y. any_way u s ∙ (λ i. reach (h.in_front i) (h.no_typeof i) (has_members s) (uses_value u) (is_value s) (y i) (is_type s) (has_typeof s))
           ∙ front (uses_value u && is_value s) (has_members s) (is_type s) (front_is_type s);
       a_front_of_value = λ u s h y v. any_way u s ∙ (λ i. reach (h.in_front i) (h.no_typeof i) (has_members s) (v i) (is_value s) (y i) (is_type s) (has_typeof s))
-          ∙ ap (λ b. has_members s && b) (or_none (is_value s || false) ∙ or_none (is_value s));
+          ∙ ap (λ b. has_members s && b) (or-false (is_value s || false) ∙ or-false (is_value s));
       nothing = λ u s h. any_way u s ∙ (λ i. reach (has u NamespaceUse) (h.no_typeof i) (has_members s) (h.no_value i) (is_value s) (h.no_type i) (is_type s) (has_typeof s))
           ∙ and_right (not (has u NamespaceUse) || false || has_members s) false refl;
       any_way = any_way;
     }
   where
-    or_true : (b : Bool) → (b || true) ≡ true
-    or_true true = refl
-    or_true false = refl
-
     front : (x m b : Bool) → (m ≡ true → b ≡ true) → (m && (x || b || false)) ≡ m
     front x false b f = refl
     front true true b f = refl
-    front false true b f = or_none b ∙ f refl
+    front false true b f = or-false b ∙ f refl
 
 -- the flags afterwards
 
@@ -171,7 +160,7 @@ excluded =
 -- what a declaration gives its symbol
 
 flag_if : (b : Bool) (j k : ℕ) → has (cond b (2 ^ j) 0) (2 ^ k) ≡ (eqb (2 ^ k) (2 ^ j) && b)
-flag_if true j k = flag_has j k ∙ sym (and_true (eqb (2 ^ k) (2 ^ j)))
+flag_if true j k = flag_has j k ∙ sym (and-true (eqb (2 ^ k) (2 ^ j)))
 flag_if false j k = nothing_has k ∙ sym (and_right (eqb (2 ^ k) (2 ^ j)) false refl)
 
 gives : (js : List ℕ) (modifiers flag : ℕ) → IsFlag flag

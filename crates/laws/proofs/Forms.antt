@@ -1,6 +1,8 @@
 -- What a declaration comes to, by its kind.
 use Rattle.std.proofs.Common.{◌≡◌, ℕ, suc, ◌+◌, ◌<◌, Bool, false, cond, not, ◌&&◌, eqb, ◌≢◌, List, [], ◌∷◌, length, is_some, Some, None, sym, refl, ap, ◌∙◌, subst, ⊎_elim, arith, length-append, length-set}
-use Rattle.std.proofs.lemmas.Bool.{cases_eq, eq-eqb, ne_eqb, cond_both}
+use Rattle.std.proofs.lemmas.Option.{same_Some}
+use Rattle.std.proofs.lemmas.Bool.{cases_eq, eq-eqb, ne_eqb, cond_both, cond-true, cond-false}
+use Rattle.std.proofs.lemmas.Bool.Decides.{nat_tests}
 use Rattle.stores.specs.Keys.{same_scope_and_name}
 use Rattle.tables.specs.Flags.{meets, ByValue, FunctionScopedVariable, FunctionSymbol, Import}
 use Rattle.tables.specs.declared.row.ScopeRow.{ScopeRow}
@@ -14,16 +16,17 @@ use Rattle.model.specs.Kinds.{TypeScript, Async, manner, excludes}
 use Rattle.model.specs.State.{Names, Machine, fresh}
 use Rattle.model.specs.Scopes.{is_var, is_strict, target, passed, conditional_scope}
 use Rattle.model.specs.Declaring.{Told, Declared, binding, hoisted, complain, add_symbol_redeclaration, unite, found, declare_shadow_symbol, declare_symbol_on_scope, move_binding, relocate, with_hoisted, hoist_all, declare_var, declare_moved_out, declare}
-use Rattle.model.specs.Calls.{told, bound, granted, after, refusal, run}
+use Rattle.model.specs.Calls.{told, bound, granted, after, run}
 use Rattle.laws.specs.Conflicts.{Reaches, Var, CatchName, Infer, MovesOut}
-use Rattle.laws.proofs.Basics.{maybe_both, bool_cases, cond_is_true, cond_is_false, none≢some, some_inj}
+use Rattle.laws.proofs.Basics.{maybe_both, bool_cases, none≢some}
+use Rattle.laws.proofs.Granting.{after_keeps}
 use Rattle.laws.proofs.Sound.{Sound, found_cases}
 use Rattle.laws.proofs.Runs.{Good, after_good}
 use Rattle.laws.proofs.FlagSets.{misses_part}
 use Rattle.laws.proofs.Scanning.{Stops, at_once, higher, stop, scan_comes_to}
 
 pub here_not_out : Here ≡ MovedOut → ⊥
-here_not_out o = let z : ◌≡◌ {A = ℕ} 0 1 = cc in omega arith
+here_not_out o = cc
 
 -- the scopes on the way see the symbol as a hoisted variable
 abbrev pub hoisted_out : List ScopeRow → ℕ → ℕ → Declared → Declared
@@ -60,27 +63,26 @@ module _ (m : Machine) (d : Declaration) where
 
   -- a kind that is no var, catch name or infer
   other_manner : d.kind ≢ Var → d.kind ≢ CatchName → d.kind ≢ Infer → its_manner ≡ cond moves MovedOut Here
-  other_manner v c i =
-      cond_is_false (eqb d.kind 1) Hoisted _ (ne_eqb d.kind 1 v) ∙ cond_is_false (eqb d.kind 8) Shadow _ (ne_eqb d.kind 8 c) ∙ cond_is_false (eqb d.kind 18) Conditional _ (ne_eqb d.kind 18 i)
+  other_manner v c i = grind (arith, nat_tests)
 
   pub form : Good m → Form (bound m d)
   unfolding declare declare_var
   form g =
       ⊎_elim
       (λ (v : d.kind ≡ 1).
-      let e : its_manner ≡ Hoisted = cond_is_true (eqb d.kind 1) Hoisted _ (eq-eqb d.kind 1 v) in
+      let e : its_manner ≡ Hoisted = cond-true (eqb d.kind 1) Hoisted _ (eq-eqb d.kind 1 v) in
       ⊎_elim
       (λ x. form_stopped x.0 x.1 v x.2 (ap comes_to e ∙ ap (hoisted_out m.scopes m.current d.name.0) x.3))
       (λ x. form_reached v x.0 (ap comes_to e ∙ ap (hoisted_out m.scopes m.current d.name.0) x.1))
       (scan_comes_to m.scopes g.tree (told m d) (mild v) m.names up (suc m.current) m.current (omega arith) g.here refl))
       (λ (v : d.kind ≢ 1). ⊎_elim
-      (λ (c : d.kind ≡ 8). form_shadow c (ap comes_to (cond_is_false (eqb d.kind 1) Hoisted _ (ne_eqb d.kind 1 v) ∙ cond_is_true (eqb d.kind 8) Shadow _ (eq-eqb d.kind 8 c))))
+      (λ (c : d.kind ≡ 8). form_shadow c (ap comes_to (cond-false (eqb d.kind 1) Hoisted _ (ne_eqb d.kind 1 v) ∙ cond-true (eqb d.kind 8) Shadow _ (eq-eqb d.kind 8 c))))
       (λ (c : d.kind ≢ 8). ⊎_elim
-      (λ (i : d.kind ≡ 18). form_infer i (ap comes_to (cond_is_false (eqb d.kind 1) Hoisted _ (ne_eqb d.kind 1 v) ∙ cond_is_false (eqb d.kind 8) Shadow _ (ne_eqb d.kind 8 c)
-      ∙ cond_is_true (eqb d.kind 18) Conditional _ (eq-eqb d.kind 18 i))))
+      (λ (i : d.kind ≡ 18). form_infer i (ap comes_to (cond-false (eqb d.kind 1) Hoisted _ (ne_eqb d.kind 1 v) ∙ cond-false (eqb d.kind 8) Shadow _ (ne_eqb d.kind 8 c)
+      ∙ cond-true (eqb d.kind 18) Conditional _ (eq-eqb d.kind 18 i))))
       (λ (i : d.kind ≢ 18). bool_cases moves (Form (bound m d))
-      (λ b. let e : its_manner ≡ MovedOut = other_manner v c i ∙ cond_is_true moves MovedOut Here b in form_moved v c i e (ap comes_to e))
-      (λ b. let e : its_manner ≡ Here = other_manner v c i ∙ cond_is_false moves MovedOut Here b in form_here v c i (λ o. here_not_out (sym e ∙ o)) (ap comes_to e)))
+      (λ b. let e : its_manner ≡ MovedOut = other_manner v c i ∙ cond-true moves MovedOut Here b in form_moved v c i e (ap comes_to e))
+      (λ b. let e : its_manner ≡ Here = other_manner v c i ∙ cond-false moves MovedOut Here b in form_here v c i (λ o. here_not_out (sym e ∙ o)) (ap comes_to e)))
       (cases_eq d.kind 18))
       (cases_eq d.kind 8))
       (cases_eq d.kind 1)
@@ -99,8 +101,8 @@ found_there rows nm h g s n k e = ⊎_elim (λ b. (h.leads s n k b).there) (λ c
 with_hoisted_fine : (nm : Names) (p name k : ℕ) → Ranged nm → k < length nm.symbols → Ranged (with_hoisted nm p name k)
 with_hoisted_fine nm p name k h l s n j e =
     bool_cases (same_scope_and_name (place s n) (place p name)) (j < length nm.symbols)
-    (λ t. let kj : k ≡ j = some_inj k j (sym (cond_is_true (same_scope_and_name (place s n) (place p name)) (Some k) _ t) ∙ e) in subst (λ x. x < length nm.symbols) kj l)
-    (λ t. h s n j (sym (cond_is_false (same_scope_and_name (place s n) (place p name)) (Some k) _ t) ∙ e))
+    (λ t. let kj : k ≡ j = same_Some k j (sym (cond-true (same_scope_and_name (place s n) (place p name)) (Some k) _ t) ∙ e) in subst (λ x. x < length nm.symbols) kj l)
+    (λ t. h s n j (sym (cond-false (same_scope_and_name (place s n) (place p name)) (Some k) _ t) ∙ e))
 
 hoist_all_fine : (ps : List ℕ) (nm : Names) (name k : ℕ) → Ranged nm → k < length nm.symbols → Fine (record { names = hoist_all nm ps name k; symbol = k })
 unfolding hoist_all
@@ -166,8 +168,7 @@ granted_ranged m (ResolveReferences start) g h = h
 granted_ranged m ResolveAllReferences g h = h
 
 pub after_ranged : (m : Machine) (c : Call) → Good m → Ranged m.names → Ranged (after m c).names
-unfolding after
-after_ranged m c g h = maybe_both (refusal m c) (granted m c) (λ n. m) (λ x. Ranged x.names) (λ _. granted_ranged m c g h) (λ n _. h)
+after_ranged m c g h = after_keeps m c (λ x. Ranged x.names) (λ _. granted_ranged m c g h) h
 
 pub run_ranged : (cs : List Call) (m : Machine) → Good m → Ranged m.names → Ranged (run m cs).names
 run_ranged [] m g h = h

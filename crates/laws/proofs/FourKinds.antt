@@ -1,6 +1,7 @@
 -- The flags of var, let, const and class.
 use Rattle.std.proofs.Common.{◌≡◌, ℕ, zero, suc, ◌+◌, Bool, true, false, cond, ◌||◌, refl, ap, ◌∙◌, arith}
 use lib.Bits.{bit_or}
+use Rattle.std.proofs.Math.Bool.{or-false}
 use Rattle.std.proofs.lemmas.Bool.{cond_both, or_left, or_from}
 use Rattle.tables.specs.Flags.{meets, less, FunctionScopedVariable, BlockScopedVariable, Class, FunctionSymbol, FunctionExpression, RegularEnum, ConstEnum, EnumMember, Import, Ambient, AsyncOrGenerator, ByValue}
 use Rattle.model.specs.declared.manner.Manner.TheVariants.{Here}
@@ -41,12 +42,8 @@ plain_united f g p q =
       valued = meets_united f g Any ∙ or_left (meets f Any) (meets g Any) p.valued;
     }
 
-or_nothing : (b : Bool) → (b || false) ≡ b
-or_nothing true = refl
-or_nothing false = refl
-
 pub lex_united : (f g : ℕ) → meets g Lex ≡ false → meets (bit_or f g) Lex ≡ meets f Lex
-lex_united f g e = meets_united f g Lex ∙ ap (λ b. meets f Lex || b) e ∙ or_nothing (meets f Lex)
+lex_united f g e = meets_united f g Lex ∙ ap (λ b. meets f Lex || b) e ∙ or-false (meets f Lex)
 
 -- a property of let, const and class
 lexical_kinds : (P : ℕ → Type 0) → P 2 → P 3 → P 4 → (k : ℕ) → IsLexical k → P k
@@ -90,7 +87,7 @@ lexical_excludes f modifiers typescript strict p =
 -- var may not stand beside let, const and class
 pub var_excludes : (f modifiers : ℕ) (typescript strict : Bool) → Plain f → meets f (excludes 1 modifiers typescript strict) ≡ meets f Lex
 var_excludes f modifiers typescript strict p =
-    meets_either f Lex enums ∙ ap (λ b. meets f Lex || b) (misses_part f FunctionExpression enums p.odd).1 ∙ or_nothing (meets f Lex)
+    meets_either f Lex enums ∙ ap (λ b. meets f Lex || b) (misses_part f FunctionExpression enums p.odd).1 ∙ or-false (meets f Lex)
 
 pub lexical_manner : (modifiers : ℕ) (typescript strict var : Bool) (k : ℕ) → IsLexical k → manner k modifiers typescript strict var ≡ Here
 lexical_manner modifiers typescript strict var = lexical_kinds (λ k. manner k modifiers typescript strict var ≡ Here) refl refl refl

@@ -1,6 +1,6 @@
 -- References to plain values are looked up as by GetIdentifierReference.
 use Rattle.std.proofs.Common.{◌≡◌, ℕ, ◌+◌, ◌<◌, true, false, ◌&&◌, ◌||◌, eqb, ltb, List, [], ◌∷◌, ◌++◌, Some, None, sym, refl, ap, ◌∙◌, subst, inl, inr, ⊎_elim, arith}
-use Rattle.std.proofs.lemmas.Bool.{true≢false, eq-eqb, ne_eqb}
+use Rattle.std.proofs.lemmas.Bool.{true≢false, eq-eqb, ne_eqb, cond-true}
 use Rattle.tables.specs.Flags.{meets, ValueUse, ValueAsType, ByValue}
 use Rattle.tables.specs.declared.id.ReferenceId.{ReferenceId}
 use Rattle.tables.specs.declared.refusal.Refusal.TheVariants.{UnknownKind}
@@ -17,7 +17,8 @@ use Rattle.model.specs.Calls.{refusal, granted, after, run, told}
 use Rattle.laws.specs.FirstFit.{◌∈◌, Granted, LooksIn, ResolvedAs, RootListedAs, DeferredAs, flags_now, MeansArguments, NothingAt, FirstServing, serves_here, serves_above, NoneServing, none_last, none_above, PassedUp, passed_last, passed_above}
 use Rattle.laws.specs.GetIdentifierReference.{HasBinding, GetIdentifierReference, unresolvable, has_binding, ask_outer, UnboundUpTo, at_last, on_the_way, PlainValue, LookedUp, GetIdentifierReferenceLaw}
 use Rattle.laws.specs.OnceLaw.{of_pending}
-use Rattle.laws.proofs.Basics.{maybe_both, option_cases, none≢some, cond_is_true}
+use Rattle.laws.proofs.Basics.{option_cases, none≢some}
+use Rattle.laws.proofs.Granting.{after_keeps}
 use Rattle.laws.proofs.Runs.{Good, run_good, fresh_good}
 use Rattle.laws.proofs.Single.{times_there, times_same, KeptSingle, run_single, fresh_single}
 use Rattle.laws.proofs.FirstFit.{granted_is}
@@ -28,7 +29,7 @@ use Rattle.laws.proofs.Valued.{Valued, declare_valued, includes_value}
 kind_known : (m : Machine) (d : Declaration) → refusal m (Bind d) ≡ None → d.kind ≡ 0 → ⊥
 unfolding refusal
 kind_known m d h z =
-    none≢some (refusal m (Bind d)) UnknownKind h (cond_is_true (eqb d.kind 0 || ltb 18 d.kind) (Some UnknownKind) _ (ap (λ b. b || ltb 18 d.kind) (eq-eqb d.kind 0 z)))
+    none≢some (refusal m (Bind d)) UnknownKind h (cond-true (eqb d.kind 0 || ltb 18 d.kind) (Some UnknownKind) _ (ap (λ b. b || ltb 18 d.kind) (eq-eqb d.kind 0 z)))
 
 module _ (name : ℕ) where
   -- the declarations of the name, from m on
@@ -47,12 +48,11 @@ module _ (name : ℕ) where
   granted_valued m ResolveAllReferences h v = v
 
   after_valued : (m : Machine) (c : Call) (cs : List Call) → OnlyValuesFrom m (c ∷ cs) → Valued name m.names → Valued name (after m c).names
-  unfolding after
   after_valued m c cs only v =
-      maybe_both (refusal m c) (granted m c) (λ n. m) (λ (x : Machine). Valued name x.names)
+      after_keeps m c (λ (x : Machine). Valued name x.names)
       (λ h. granted_valued m c (λ d q n. let h2 : refusal m (Bind d) ≡ None = subst (λ x. refusal m x ≡ None) q h in
       (kind_known m d h2, only [] cs d (ap (λ x. x ∷ cs) q) (granted_is m (Bind d) h2) n)) v)
-      (λ n _. v)
+      v
 
   run_valued : (cs : List Call) (m : Machine) → OnlyValuesFrom m cs → Valued name m.names → Valued name (run m cs).names
   run_valued [] m only v = v

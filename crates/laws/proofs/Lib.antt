@@ -1,5 +1,6 @@
 mod ScriptsComputed
 pub mod Basics
+pub mod Granting
 pub mod Tree
 pub mod Sound
 pub mod Runs

@@ -1,6 +1,7 @@
 -- No run goes past the limits.
-use Rattle.std.proofs.Common.{◌≡◌, ℕ, suc, ◌+◌, ◌-◌, ◌<◌, ◌≤◌, true, false, cond, not, ◌||◌, eqb, ltb, leb, List, [], ◌∷◌, length, Some, None, Option, sym, refl, ap, ◌∙◌, subst, arith, length-append}
-use Rattle.std.proofs.lemmas.Bool.{cond_both, or_parts, ltb-false, leb-false, lt-ltb, le-leb}
+use Rattle.std.proofs.Common.{◌≡◌, ℕ, ◌+◌, ◌-◌, ◌<◌, ◌≤◌, true, false, cond, not, ◌||◌, eqb, ltb, leb, List, [], ◌∷◌, length, Some, None, Ok, Err, Option, sym, refl, ap, ◌∙◌, subst, arith, length-append}
+use Rattle.std.proofs.lemmas.Bool.{or_parts, ltb-false, leb-false, lt-ltb, le-leb, cond-true}
+use Rattle.std.proofs.lemmas.Bool.Decides.{nat_tests}
 use Rattle.std.specs.List.{AllByRecursion}
 use Rattle.tables.specs.Flags.{less, all_reference_flags}
 use Rattle.tables.specs.declared.refusal.Refusal.{Refusal}
@@ -8,19 +9,16 @@ use Rattle.tables.specs.declared.refusal.Refusal.TheVariants.{UnlistedBits, Unkn
 use Rattle.tables.specs.declared.row.UnresolvedReference.{UnresolvedReference}
 use Rattle.model.specs.declared.call.Call.{Call}
 use Rattle.model.specs.declared.call.Call.TheVariants.{EnterScope, LeaveScope, Bind, DeclareReference, ResolveReferences, ResolveAllReferences}
-use Rattle.model.specs.declared.call.Answer.TheVariants.{Refused}
 use Rattle.model.specs.declared.call.Declaration.{Declaration}
 use Rattle.model.specs.declared.call.NewReference.{NewReference}
-use Rattle.model.specs.declared.manner.Manner.{Manner}
-use Rattle.model.specs.declared.manner.Manner.TheVariants.{Here, Hoisted, MovedOut, Shadow, Conditional}
 use Rattle.model.specs.Kinds.{kind_row, last_kind}
 use Rattle.model.specs.Basics.{maybe}
 use Rattle.model.specs.State.{Machine, Names, Uses, fresh}
-use Rattle.model.specs.Scopes.{passed}
 use Rattle.model.specs.Resolving.{Fate, settle, settle_all, resolve_end, resolve_here}
 use Rattle.model.specs.Calls.{Test, ◌if◌, first_of, most_references, refusal, granted, after, run, told, reach, declarations_full, stores_have_room, answer, granted_answer, builder_refusal, builder_after, builder_answer}
 use Rattle.laws.specs.NeverFull.{NeverFull}
-use Rattle.laws.proofs.Basics.{bool_cases, maybe_both, none≢some, cond_is_true}
+use Rattle.laws.proofs.Basics.{bool_cases, none≢some}
+use Rattle.laws.proofs.Granting.{after_keeps}
 use Rattle.laws.proofs.Runs.{run_good, fresh_good}
 use Rattle.laws.proofs.Growing.{hoists, declare_grown}
 use Rattle.laws.proofs.Numbering.{numbered_few}
@@ -36,20 +34,12 @@ pub record Limited (m : Machine) : Type 0 where
 none_holds : (ts : List Test) → first_of ts ≡ None → AllByRecursion (λ t. t.holds ≡ false) ts
 none_holds [] e = tt
 none_holds (t ∷ ts) e = bool_cases t.holds (AllByRecursion (λ t. t.holds ≡ false) (t ∷ ts))
-    (λ b. absurd (none≢some _ t.refusal e (cond_is_true t.holds (Some t.refusal) (first_of ts) b)))
+    (λ b. absurd (none≢some _ t.refusal e (cond-true t.holds (Some t.refusal) (first_of ts) b)))
     (λ b. (b, none_holds ts (sym (ap (λ x. cond x (Some t.refusal) (first_of ts)) b) ∙ e)))
 
 -- a declaration hoists no more than it reaches
 hoists_few : (m : Machine) (d : Declaration) → hoists (told m d) m.scopes m.current (manner_here m d) ≤ reach m d.kind
-hoists_few m d =
-    let n = length (passed m.scopes m.current) in
-    let one : 1 ≤ reach m d.kind = cond_both (eqb d.kind 1) (suc n) 1 (λ x. 1 ≤ x) (λ _. omega arith) (λ _. omega arith) in
-    let P : Manner → Type 0 = λ how. hoists (told m d) m.scopes m.current how ≤ reach m d.kind in
-    cond_both (eqb d.kind 1) Hoisted _ P
-    (λ e. let r : reach m d.kind ≡ suc n = cond_is_true (eqb d.kind 1) (suc n) 1 e in omega arith)
-    (λ _. cond_both (eqb d.kind 8) Shadow _ P (λ _. omega arith)
-    (λ _. cond_both (eqb d.kind 18) Conditional _ P (λ _. omega arith)
-    (λ _. cond_both _ MovedOut Here P (λ _. omega arith) (λ _. omega arith))))
+hoists_few m d = grind (arith, nat_tests)
 
 -- what the tests leave
 declaration_room : (m : Machine) (d : Declaration) → refusal m (Bind d) ≡ None → (length m.names.symbols < 512) × (m.names.hoisting.size + reach m d.kind ≤ 512)
@@ -92,8 +82,7 @@ granted_limited m ResolveAllReferences e l =
     record { symbols = l.symbols; hoisted = l.hoisted; references = let a = settle_all_rows m.names _ _ _ in subst (λ n. n ≤ 512) (sym a) l.references }
 
 after_limited : (m : Machine) (c : Call) → Limited m → Limited (after m c)
-unfolding after
-after_limited m c l = maybe_both (refusal m c) (granted m c) (λ n. m) Limited (λ e. granted_limited m c e l) (λ n _. l)
+after_limited m c l = after_keeps m c Limited (λ e. granted_limited m c e l) l
 
 pub run_limited : (cs : List Call) (m : Machine) → Limited m → Limited (run m cs)
 run_limited [] m l = l
@@ -116,7 +105,7 @@ unfolding builder_refusal
 builder_refuses m c room = go (refusal m c) room
   where
     go : (r : Option Refusal) → (r ≡ None → stores_have_room m c ≡ true) → maybe r (cond (stores_have_room m c) None (Some StoreFull)) Some ≡ r
-    go None h = cond_is_true (stores_have_room m c) None (Some StoreFull) (h refl)
+    go None h = cond-true (stores_have_room m c) None (Some StoreFull) (h refl)
     go (Some n) h = refl
 
 builder_goes_on : (m : Machine) (c : Call) → builder_refusal m c ≡ refusal m c → builder_after m c ≡ after m c
@@ -125,7 +114,7 @@ builder_goes_on m c e = ap (λ r. maybe r (granted m c) (λ n. m)) e
 
 builder_answers : (m : Machine) (c : Call) → builder_refusal m c ≡ refusal m c → builder_answer m c ≡ answer m c
 unfolding builder_answer answer
-builder_answers m c e = ap (λ r. maybe r (granted_answer m c) Refused) e
+builder_answers m c e = ap (λ r. maybe r (Ok (granted_answer m c)) Err) e
 
 pub never_full_law : NeverFull
 never_full_law setting cs =

@@ -1,6 +1,5 @@
 use Rattle.std.proofs.Common.{List, [], ◌∷◌, refl, ap}
-use Rattle.model.specs.declared.call.Answer.{Answer}
-use Rattle.model.specs.Calls.{after, answer}
+use Rattle.model.specs.Calls.{Answer, after, answer}
 use Rattle.laws.specs.LongerRuns.{OneLonger, LongerFromShorter}
 
 pub longer_law : LongerFromShorter

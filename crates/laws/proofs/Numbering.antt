@@ -1,6 +1,7 @@
 -- The numbers of the root unresolved lists.
 use Rattle.std.proofs.Common.{◌≡◌, ℕ, suc, ◌+◌, ◌<◌, ◌≤◌, cond, eqb, List, [], ◌∷◌, ◌++◌, length, is_some, Some, None, Option, sym, refl, ap, ◌∙◌, subst, inl, inr, ⊎_elim, arith}
-use Rattle.std.proofs.lemmas.Bool.{cases_eq, eq-eqb, ne_eqb}
+use Rattle.std.proofs.lemmas.Option.{same_Some}
+use Rattle.std.proofs.lemmas.Bool.{cases_eq, eq-eqb, ne_eqb, cond-true, cond-false}
 use Rattle.tables.specs.declared.id.Name.{Name}
 use Rattle.tables.specs.declared.id.ReferenceId.{ReferenceId}
 use Rattle.tables.specs.declared.row.RootReference.{RootReference}
@@ -9,7 +10,7 @@ use Rattle.stores.specs.Keys.{same_name}
 use Rattle.model.specs.Basics.{maybe, the_name}
 use Rattle.model.specs.Resolving.{list_number, with_list}
 use Rattle.laws.specs.OnceLaw.{NumberedFrom, NumbersRight}
-use Rattle.laws.proofs.Basics.{cond_is_true, cond_is_false, none≢some, some_inj}
+use Rattle.laws.proofs.Basics.{none≢some}
 
 abbrev pub listing : ℕ → ReferenceId → RootReference
 listing n r = record { list = n; reference = r }
@@ -46,10 +47,10 @@ module _ (roots : Pairs Name) (name : ℕ) where
       go (Some n) e = old n e
 
   opened_here : (q : ℕ) → q ≡ name → opened.get (the_name q) ≡ Some roots.size
-  opened_here q e = cond_is_true (eqb q name) (Some roots.size) (roots.get (the_name q)) (eq-eqb q name e)
+  opened_here q e = cond-true (eqb q name) (Some roots.size) (roots.get (the_name q)) (eq-eqb q name e)
 
   opened_other : (q : ℕ) → (q ≡ name → ⊥) → opened.get (the_name q) ≡ roots.get (the_name q)
-  opened_other q e = cond_is_false (eqb q name) (Some roots.size) (roots.get (the_name q)) (ne_eqb q name e)
+  opened_other q e = cond-false (eqb q name) (Some roots.size) (roots.get (the_name q)) (ne_eqb q name e)
 
   pub listed_here : (with_list roots name).get (the_name name) ≡ Some (list_number roots name)
   listed_here = list_cases (λ p n. p.get (the_name name) ≡ Some n) (λ n e. e) (λ e. opened_here name refl)
@@ -75,7 +76,7 @@ module _ (roots : Pairs Name) (name : ℕ) where
       let size : opened.size ≡ suc roots.size = ap (λ o. cond (is_some o) roots.size (suc roots.size)) none in
       record {
         below = λ q n e. ⊎_elim
-            (λ (z : q ≡ name). let a : roots.size ≡ n = some_inj roots.size n (sym (opened_here q z) ∙ e) in omega arith)
+            (λ (z : q ≡ name). let a : roots.size ≡ n = same_Some roots.size n (sym (opened_here q z) ∙ e) in omega arith)
             (λ (z : q ≡ name → ⊥). let a = h.below q n (sym (opened_other q z) ∙ e) in omega arith)
             (cases_eq q name);
         belongs = λ n l. ⊎_elim
@@ -85,10 +86,10 @@ module _ (roots : Pairs Name) (name : ℕ) where
         one_name = λ x y n e f. ⊎_elim
             (λ (z : x ≡ name). ⊎_elim
             (λ (t : y ≡ name). z ∙ sym t)
-            (λ (t : y ≡ name → ⊥). let a : roots.size ≡ n = some_inj roots.size n (sym (opened_here x z) ∙ e) in let b = h.below y n (sym (opened_other y t) ∙ f) in absurd (omega arith))
+            (λ (t : y ≡ name → ⊥). let a : roots.size ≡ n = same_Some roots.size n (sym (opened_here x z) ∙ e) in let b = h.below y n (sym (opened_other y t) ∙ f) in absurd (omega arith))
             (cases_eq y name))
             (λ (z : x ≡ name → ⊥). ⊎_elim
-            (λ (t : y ≡ name). let a : roots.size ≡ n = some_inj roots.size n (sym (opened_here y t) ∙ f) in let b = h.below x n (sym (opened_other x z) ∙ e) in absurd (omega arith))
+            (λ (t : y ≡ name). let a : roots.size ≡ n = same_Some roots.size n (sym (opened_here y t) ∙ f) in let b = h.below x n (sym (opened_other x z) ∙ e) in absurd (omega arith))
             (λ (t : y ≡ name → ⊥). h.one_name x y n (sym (opened_other x z) ∙ e) (sym (opened_other y t) ∙ f))
             (cases_eq y name))
             (cases_eq x name);

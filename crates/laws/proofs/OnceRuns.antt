@@ -1,5 +1,6 @@
 -- Every run keeps the references in order; so the laws Once and CountsRight.
-use Rattle.std.proofs.Common.{◌≡◌, ℕ, ◌+◌, ◌<◌, ◌≤◌, true, false, cond, List, [], ◌∷◌, ◌++◌, length, get_or, Some, None, Option, sym, refl, ap, ◌∙◌, subst, ⊎_elim, append_assoc, append-nil, arith, length-append}
+use Rattle.std.proofs.Common.{◌≡◌, ℕ, ◌+◌, ◌<◌, ◌≤◌, true, false, cond, List, [], ◌∷◌, ◌++◌, length, get_or, Some, None, Ok, Err, Option, sym, refl, ap, ◌∙◌, subst, ⊎_elim, append_assoc, append-nil, arith, length-append}
+use Rattle.std.proofs.lemmas.Option.{same_Some}
 use lib.ListN.{get_or-eq_default}
 use Rattle.std.proofs.lemmas.Bool.{true≢false, cases_lt}
 use Rattle.std.proofs.ByRecursion.{All-weaker}
@@ -13,7 +14,6 @@ use Rattle.tables.specs.declared.row.ResolvedReference.{ResolvedReference}
 use Rattle.tables.specs.declared.row.RootReference.{RootReference}
 use Rattle.model.specs.declared.call.Call.{Call}
 use Rattle.model.specs.declared.call.Call.TheVariants.{EnterScope, LeaveScope, Bind, DeclareReference, ResolveReferences, ResolveAllReferences}
-use Rattle.model.specs.declared.call.Answer.TheVariants.{Refused}
 use Rattle.model.specs.declared.call.Declaration.{Declaration}
 use Rattle.model.specs.declared.manner.Manner.{Manner}
 use Rattle.model.specs.Basics.{maybe, symbol_number, the_name}
@@ -24,7 +24,7 @@ use Rattle.model.specs.Declaring.{binding}
 use Rattle.model.specs.Resolving.{Fate, resolve_to, list_at_root, stay, settle, settle_all, resolve_end, resolve_here}
 use Rattle.model.specs.Calls.{granted, granted_answer, after, answer, answers, refusal, run, told, with_uses, counted}
 use Rattle.laws.specs.OnceLaw.{is_refusal, name_given, accepted, total, resolved_list, numbered_list, root_list, resolved_in_all, listed_in_all, one, sum_of, of_pending, of_resolved, of_root, resolved_to, Placed, Once, is_resolving, CountsGrowth, CountsRight}
-use Rattle.laws.proofs.Basics.{none≢some, some_inj}
+use Rattle.laws.proofs.Basics.{none≢some}
 use Rattle.laws.proofs.Runs.{Good, after_good, fresh_good, run_good}
 use Rattle.laws.proofs.Growing.{declare_grown}
 use Rattle.laws.proofs.Placing.{IsNamed, Ordered, resolve_here_ordered, resolve_end_ordered, refer_ordered, ordered_more}
@@ -55,22 +55,13 @@ granted_ordered names m ResolveAllReferences g o =
     subst (λ ns. InOrder ns (granted m ResolveAllReferences)) (sym (append-nil names))
     (resolve_end_ordered m.scopes m.names (leads_there m g) names m.uses o)
 
-granted_no_refusal : (m : Machine) (c : Call) → is_refusal (granted_answer m c) ≡ false
-unfolding granted_answer
-granted_no_refusal m (EnterScope s) = refl
-granted_no_refusal m LeaveScope = refl
-granted_no_refusal m (Bind d) = refl
-granted_no_refusal m (DeclareReference r) = refl
-granted_no_refusal m (ResolveReferences start) = refl
-granted_no_refusal m ResolveAllReferences = refl
-
 pub after_ordered : (names : List ℕ) (m : Machine) (c : Call) → Good m → InOrder names m
     → InOrder (names ++ cond (is_refusal (answer m c)) [] (name_given c)) (after m c)
 unfolding after answer
 after_ordered names m c g o = go (refusal m c)
   where
-    go : (r : Option Refusal) → InOrder (names ++ cond (is_refusal (maybe r (granted_answer m c) Refused)) [] (name_given c)) (maybe r (granted m c) (λ n. m))
-    go None = subst (λ b. InOrder (names ++ cond b [] (name_given c)) (granted m c)) (sym (granted_no_refusal m c)) (granted_ordered names m c g o)
+    go : (r : Option Refusal) → InOrder (names ++ cond (is_refusal (maybe r (Ok (granted_answer m c)) Err)) [] (name_given c)) (maybe r (granted m c) (λ n. m))
+    go None = granted_ordered names m c g o
     go (Some n) = subst (λ ns. InOrder ns m) (sym (append-nil names)) o
 
 pub run_ordered : (cs : List Call) (names : List ℕ) (m : Machine) → Good m → InOrder names m → InOrder (names ++ accepted cs (answers m cs)) (run m cs)
@@ -137,7 +128,7 @@ module _ (names : List ℕ) (m : Machine) (o : InOrder names m) where
         let b = total_one r (length m.uses.references) row_there in
         let c : sum_of of_resolved (one r) (resolved_list m.uses s) ≡ sum_of of_resolved (one r) m.uses.resolved
         = counted_there of_resolved (λ (j : ResolvedReference). j.symbol.0) r s m.uses.resolved
-        (All-weaker _ _ (λ j h z. some_inj j.symbol.0 s (sym h ∙ ap (resolved_to m.uses) z ∙ e)) m.uses.resolved o.resolved_rows) in
+        (All-weaker _ _ (λ j h z. same_Some j.symbol.0 s (sym h ∙ ap (resolved_to m.uses) z ∙ e)) m.uses.resolved o.resolved_rows) in
         omega arith
 
   -- what is in a root list is in that of its name
@@ -150,7 +141,7 @@ module _ (names : List ℕ) (m : Machine) (o : InOrder names m) where
           (All-weaker _ _ (λ k h z. none≢some (m.uses.roots.get (the_name (get_or names r 0))) k.list e (ap (λ x. m.uses.roots.get (the_name (get_or names x 0))) (sym z) ∙ h.1)) m.uses.root o.root_named))
       go (Some n) e =
           counted_there of_root (λ (k : RootReference). k.list) r n m.uses.root
-          (All-weaker _ _ (λ k h z. some_inj k.list n (sym h.1 ∙ ap (λ x. m.uses.roots.get (the_name (get_or names x 0))) z ∙ e)) m.uses.root o.root_named)
+          (All-weaker _ _ (λ k h z. same_Some k.list n (sym h.1 ∙ ap (λ x. m.uses.roots.get (the_name (get_or names x 0))) z ∙ e)) m.uses.root o.root_named)
 
   pub placed : Placed names m.names m.uses
   placed =
@@ -204,13 +195,13 @@ unfolding resolve_end
 resolve_end_longer rows nm us = let l = settle_all_longer nm _ _ _ in record { more_resolved = l.more_resolved; more_root = l.more_root }
 
 -- the uses after a resolving call
-counted_growth : (names : List ℕ) (m : Machine) (us : Uses) → InOrder names m → InOrder names (with_uses m us) → Longer m.uses us → CountsGrowth m (with_uses m us) (counted m.uses us)
+counted_growth : (names : List ℕ) (m : Machine) (us : Uses) → InOrder names m → InOrder names (with_uses m us) → Longer m.uses us → CountsGrowth m (with_uses m us) (Ok (counted m.uses us))
 counted_growth names m us o o' l =
     let a = all_resolved names m o in let a' = all_resolved names (with_uses m us) o' in
     let b = all_listed names m o in let b' = all_listed names (with_uses m us) o' in
     record { counts = _; answered = refl; resolved = omega arith; root = omega arith; pending = refl }
 
-granted_counts : (names : List ℕ) (m : Machine) (c : Call) → Good m → InOrder names m → is_resolving c ≡ true → CountsGrowth m (granted m c) (granted_answer m c)
+granted_counts : (names : List ℕ) (m : Machine) (c : Call) → Good m → InOrder names m → is_resolving c ≡ true → CountsGrowth m (granted m c) (Ok (granted_answer m c))
 unfolding granted granted_answer
 granted_counts names m (EnterScope s) g o e = absurd (true≢false (sym e))
 granted_counts names m LeaveScope g o e = absurd (true≢false (sym e))
@@ -227,7 +218,7 @@ after_counts : (names : List ℕ) (m : Machine) (c : Call) → Good m → InOrde
 unfolding after answer
 after_counts names m c g o e = go (refusal m c)
   where
-    go : (r : Option Refusal) → is_refusal (maybe r (granted_answer m c) Refused) ≡ false → CountsGrowth m (maybe r (granted m c) (λ n. m)) (maybe r (granted_answer m c) Refused)
+    go : (r : Option Refusal) → is_refusal (maybe r (Ok (granted_answer m c)) Err) ≡ false → CountsGrowth m (maybe r (granted m c) (λ n. m)) (maybe r (Ok (granted_answer m c)) Err)
     go None n = granted_counts names m c g o e
     go (Some r) n = absurd (true≢false n)
 

@@ -1,14 +1,13 @@
 -- The law on conflicts and redeclarations.
 use Rattle.std.proofs.Common.{◌≡◌, ℕ, suc, true, false, cond, ◌≢◌, List, [], ◌∷◌, ◌++◌, length, set, is_some, Some, None, sym, refl, ap, ◌∙◌, subst, ⊎_elim, arith}
 use lib.Seq.{get_or-append_seam}
-use Rattle.std.proofs.lemmas.Bool.{true≢false, cond_both}
+use Rattle.std.proofs.lemmas.Bool.{true≢false, cond_both, cond-true, cond-false}
 use Rattle.stores.specs.Keys.{same_scope_and_name}
 use Rattle.tables.specs.Flags.{meets, TsConditional, VarScope}
 use Rattle.tables.specs.declared.row.SymbolRow.{SymbolRow}
 use Rattle.model.specs.declared.call.Call.{Call}
 use Rattle.model.specs.declared.call.Call.TheVariants.{EnterScope, LeaveScope, Bind, DeclareReference, ResolveReferences, ResolveAllReferences}
 use Rattle.model.specs.declared.call.Declaration.{Declaration}
-use Rattle.model.specs.declared.call.Answer.TheVariants.{Refused}
 use Rattle.model.specs.declared.manner.Manner.{Manner}
 use Rattle.model.specs.declared.manner.Manner.TheVariants.{Hoisted, MovedOut, Shadow, Conditional}
 use Rattle.model.specs.Basics.{maybe, place}
@@ -16,9 +15,10 @@ use Rattle.model.specs.Kinds.{TypeScript, manner}
 use Rattle.model.specs.State.{Names, Machine, fresh, no_symbol}
 use Rattle.model.specs.Scopes.{is_var, is_strict, passed, conditional_scope}
 use Rattle.model.specs.Declaring.{Declared, binding, unite, found, declare_shadow_symbol, declare_symbol_on_scope, move_binding, relocate, with_hoisted, with_scope, hoist_all, declare_moved_out}
-use Rattle.model.specs.Calls.{told, bound, granted, granted_answer, after, answer, refusal, run}
+use Rattle.model.specs.Calls.{told, bound, granted, after, answer, refusal, run}
 use Rattle.laws.specs.Conflicts.{Beside, Nearest, Reaches, Var, CatchName, Infer, MadeIn, var_scope, conditional, no_conditional, current_scope, ComesUpon, on_the_way, in_scope, NewSymbol, MovesOut, ScopeOfNew, stays, name_taken, moves, Outcome, stopped, united, made, was_granted, is_bind, ConflictsExactly}
-use Rattle.laws.proofs.Basics.{maybe_both, option_cases, bool_cases, cond_is_true, cond_is_false, is_some_from, same_true}
+use Rattle.laws.proofs.Basics.{option_cases, bool_cases, is_some_from, same_true}
+use Rattle.laws.proofs.Granting.{granted_answers, granted_after, after_keeps, refused_answers, refused_after}
 use Rattle.laws.proofs.Tree.{target_var}
 use Rattle.laws.proofs.Sound.{Sound}
 use Rattle.laws.proofs.Runs.{Good, fresh_good, run_good, moved_out_of}
@@ -39,13 +39,13 @@ module _ (m : Machine) (d : Declaration) where
   still k how e h other o = other (sym h ∙ ap its_manner (sym e) ∙ o)
 
   var_stays : d.kind ≡ Var → MovesOut m d → ⊥
-  var_stays e = still 1 Hoisted e refl (λ o. let z : ◌≡◌ {A = ℕ} 0 1 = cc in omega arith)
+  var_stays e = still 1 Hoisted e refl (λ o. cc)
 
   catch_stays : d.kind ≡ CatchName → MovesOut m d → ⊥
-  catch_stays e = still 8 Shadow e refl (λ o. let z : ◌≡◌ {A = ℕ} 0 1 = cc in omega arith)
+  catch_stays e = still 8 Shadow e refl (λ o. cc)
 
   infer_stays : d.kind ≡ Infer → MovesOut m d → ⊥
-  infer_stays e = still 18 Conditional e refl (λ o. let z : ◌≡◌ {A = ℕ} 0 1 = cc in omega arith)
+  infer_stays e = still 18 Conditional e refl (λ o. cc)
 
   -- nothing is come upon where a name has nothing beside it
   upon_none : (t : ℕ) → MadeIn m d t → found m.names t d.name.0 ≡ None → (k : ℕ) → ComesUpon m d k → ⊥
@@ -119,7 +119,7 @@ module _ (m : Machine) (d : Declaration) where
 
       new_binding : binding (declare_shadow_symbol (told m d) m.names m.current).names (up m d) d.name.0 ≡ binding m.names (up m d) d.name.0
       unfolding declare_shadow_symbol
-      new_binding = cond_is_false (same_scope_and_name (place (up m d) d.name.0) (place m.current d.name.0)) _ _ other_place
+      new_binding = cond-false (same_scope_and_name (place (up m d) d.name.0) (place m.current d.name.0)) _ _ other_place
 
       new_moved : (scope : ℕ) × ScopeOfNew m d m.current scope × NewSymbol (told m d) m.names (moved_from (declare_shadow_symbol (told m d) m.names m.current)) scope
       unfolding declare_shadow_symbol move_binding
@@ -131,9 +131,9 @@ module _ (m : Machine) (d : Declaration) where
           let free : is_some (binding r.names t d.name.0) ≡ false = ap is_some (new_binding ∙ e) in (
             t,
             moves out up_nearest e,
-            subst (λ (x : Names). NewSymbol (told m d) m.names x t) (sym (cond_is_false (is_some (binding r.names t d.name.0)) r.names _ free))
+            subst (λ (x : Names). NewSymbol (told m d) m.names x t) (sym (cond-false (is_some (binding r.names t d.name.0)) r.names _ free))
                 (subst (λ (x : Names). NewSymbol (told m d) m.names (with_hoisted x m.current d.name.0 r.symbol) t)
-                (sym (cond_is_false (is_some (binding r.names t d.name.0)) r.names (relocate r.names m.current t d.name.0 r.symbol) free))
+                (sym (cond-false (is_some (binding r.names t d.name.0)) r.names (relocate r.names m.current t d.name.0 r.symbol) free))
                 (record {
                   no_conflict = refl;
                   no_redeclaration = refl;
@@ -144,7 +144,7 @@ module _ (m : Machine) (d : Declaration) where
           let taken : is_some (binding r.names t d.name.0) ≡ true = is_some_from _ k (new_binding ∙ e) in (
             m.current,
             name_taken t k out up_nearest e refl,
-            subst (λ (x : Names). NewSymbol (told m d) m.names x m.current) (sym (cond_is_true (is_some (binding r.names t d.name.0)) r.names _ taken))
+            subst (λ (x : Names). NewSymbol (told m d) m.names x m.current) (sym (cond-true (is_some (binding r.names t d.name.0)) r.names _ taken))
                 (new_made (told m d) m.names m.current),
           ))
 
@@ -195,30 +195,12 @@ module _ (m : Machine) (d : Declaration) where
 -- refused, or not
 
 pub granted_no_refusal : (m : Machine) (c : Call) → was_granted (answer m c) ≡ true → refusal m c ≡ None
-unfolding answer
 granted_no_refusal m c e =
-    option_cases (refusal m c) (refusal m c ≡ None) (λ z. z)
-    (λ r z. absurd (true≢false (sym e ∙ ap (λ o. was_granted (maybe o (granted_answer m c) Refused)) z)))
-
-pub after_granted : (m : Machine) (c : Call) → refusal m c ≡ None → after m c ≡ granted m c
-unfolding after
-after_granted m c e = ap (λ o. maybe o (granted m c) (λ _. m)) e
-
-granted_answers : (m : Machine) (c : Call) → was_granted (granted_answer m c) ≡ true
-unfolding granted_answer
-granted_answers m (EnterScope s) = refl
-granted_answers m LeaveScope = refl
-granted_answers m (Bind d) = refl
-granted_answers m (DeclareReference r) = refl
-granted_answers m (ResolveReferences start) = refl
-granted_answers m ResolveAllReferences = refl
+    option_cases (refusal m c) (refusal m c ≡ None) (λ z. z) (λ r z. absurd (true≢false (sym e ∙ ap was_granted (refused_answers m c r z))))
 
 pub after_refused : (m : Machine) (c : Call) → was_granted (answer m c) ≡ false → after m c ≡ m
-unfolding after answer
 after_refused m c e =
-    option_cases (refusal m c) (after m c ≡ m)
-    (λ z. absurd (true≢false (sym (granted_answers m c) ∙ sym (ap (λ o. was_granted (maybe o (granted_answer m c) Refused)) z) ∙ e)))
-    (λ r z. ap (λ o. maybe o (granted m c) (λ _. m)) z)
+    option_cases (refusal m c) (after m c ≡ m) (λ z. absurd (true≢false (sym (ap was_granted (granted_answers m c z)) ∙ e))) (refused_after m c)
 
 no_bind_names : (m : Machine) (c : Call) → is_bind c ≡ false → (granted m c).names ≡ m.names
 unfolding granted
@@ -230,12 +212,11 @@ no_bind_names m (ResolveReferences start) e = refl
 no_bind_names m ResolveAllReferences e = refl
 
 pub other_names : (m : Machine) (c : Call) → is_bind c ≡ false → (after m c).names ≡ m.names
-unfolding after
-other_names m c e = maybe_both (refusal m c) (granted m c) (λ _. m) (λ x. x.names ≡ m.names) (λ _. no_bind_names m c e) (λ _ _. refl)
+other_names m c e = after_keeps m c (λ x. x.names ≡ m.names) (λ _. no_bind_names m c e) refl
 
 pub bind_granted : (m : Machine) (d : Declaration) → was_granted (answer m (Bind d)) ≡ true → (after m (Bind d)).names ≡ (bound m d).names
 unfolding granted
-bind_granted m d e = ap (λ (x : Machine). x.names) (after_granted m (Bind d) (granted_no_refusal m (Bind d) e))
+bind_granted m d e = ap (λ (x : Machine). x.names) (granted_after m (Bind d) (granted_no_refusal m (Bind d) e))
 
 pub conflicts_law : ConflictsExactly
 conflicts_law setting cs =

@@ -15,7 +15,8 @@ use Rattle.laws.proofs.Basics.{option_cases}
 use Rattle.laws.proofs.Runs.{Good, after_good, fresh_good}
 use Rattle.laws.proofs.Single.{times_there, KeptSingle, after_single, fresh_single}
 use Rattle.laws.proofs.Settling.{resolved_from, listed_from, left_from}
-use Rattle.laws.proofs.FirstFit.{granted_is, refused_is, first_fit_right}
+use Rattle.laws.proofs.FirstFit.{granted_is, first_fit_right}
+use Rattle.laws.proofs.Granting.{refused_after}
 
 mem_drop : {X : Type 0} (n : ℕ) (xs : List X) (x : X) → x ∈ (drop n xs) → x ∈ xs
 mem_drop zero xs x h = h
@@ -86,11 +87,11 @@ module _ (m : Machine) (good : Good m) (single : KeptSingle m) where
         pending = λ p k. ⊎_elim inl (λ l. inr (inl (ap (λ (x : UnresolvedReference). x.reference.0) (Memᴰ.eq_of_singleton l))))
             (Memᴰ.append_cases m.uses.pending (subst (λ (us : Uses). p ∈ us.pending) e k));
       })
-      (λ n h. unmoved (DeclareReference r) (ap (λ (x : Machine). x.uses) (refused_is m (DeclareReference r) n h)))
+      (λ n h. unmoved (DeclareReference r) (ap (λ (x : Machine). x.uses) (refused_after m (DeclareReference r) n h)))
   one_call (ResolveReferences start) =
       option_cases (refusal m (ResolveReferences start)) (OneCall m (ResolveReferences start))
       (λ h. settled (ResolveReferences start) start ((first_fit_right m good single).resolve_in_scope start (granted_is m (ResolveReferences start) h)))
-      (λ n h. unmoved (ResolveReferences start) (ap (λ (x : Machine). x.uses) (refused_is m (ResolveReferences start) n h)))
+      (λ n h. unmoved (ResolveReferences start) (ap (λ (x : Machine). x.uses) (refused_after m (ResolveReferences start) n h)))
   one_call ResolveAllReferences = settled ResolveAllReferences 0 (first_fit_right m good single).resolve_all
 
 -- a later call

@@ -1,8 +1,9 @@
 -- What the calls keep of the references.
 use Rattle.std.proofs.Common.{◌≡◌, ℕ, suc, ◌+◌, ◌<◌, ◌≤◌, cond, ◌⊎◌, List, [], ◌∷◌, ◌++◌, length, get_or, take, drop, Some, None, Option, sym, refl, ap, ◌∙◌, subst, inl, inr, ⊎_elim, arith, length-append, length-set, take-append-drop, get_or-set_other, get_or-set_same}
+use Rattle.std.proofs.lemmas.Option.{same_Some}
 use lib.ListN.{get_or-append, get_or-eq_default}
 use lib.Seq.{get_or-append_seam}
-use Rattle.std.proofs.lemmas.Bool.{cond_both, cases_eq, cases_lt}
+use Rattle.std.proofs.lemmas.Bool.{cond_both, cases_eq, cases_lt, cond-true, cond-false}
 use Rattle.std.proofs.ByRecursion.{All-push, All-weaker, All-take, All-drop}
 use Rattle.std.specs.List.{AllByRecursion}
 use Rattle.tables.specs.declared.row.ScopeRow.{ScopeRow}
@@ -18,7 +19,7 @@ use Rattle.model.specs.Declaring.{binding}
 use Rattle.model.specs.Resolving.{Fate, resolve_to, list_at_root, stay, settle, settle_all, resolve_end, resolve_here, keep_pending, deferred, list_number, fate_at_end, fate_here, search, serving_in, serves, lookup_chain, chain_up_to, has_ended}
 use Rattle.model.specs.Calls.{refer}
 use Rattle.laws.specs.OnceLaw.{total, sum_of, of_pending, of_resolved, of_root, weight, one, resolved_to, NumbersRight}
-use Rattle.laws.proofs.Basics.{bool_cases, option_cases, cond_is_true, cond_is_false, none≢some, some_inj, maybe_both}
+use Rattle.laws.proofs.Basics.{bool_cases, option_cases, none≢some, maybe_both}
 use Rattle.laws.proofs.Growing.{Grown}
 use Rattle.laws.proofs.Numbering.{listing, listed_here, listed_still, numbers_listing}
 use Rattle.laws.proofs.Weights.{sum_append, settle_weight, one_here, total_one_le, none_there}
@@ -164,13 +165,13 @@ search_ends nm name flags s (p ∷ ps) e =
       p,
       option_cases (binding nm p name) (binding nm p name ≡ Some s)
           (λ b. absurd (none≢some None k refl (sym (ap (λ o. maybe o None (λ s. cond (serves nm name flags s) (Some s) None)) b) ∙ q)))
-          (λ j b. b ∙ ap Some (that j k (sym (ap (λ o. maybe o None (λ s. cond (serves nm name flags s) (Some s) None)) b) ∙ q) ∙ some_inj k s (sym (ap (λ o. maybe o (search nm name flags ps) Some) q) ∙ e))),
+          (λ j b. b ∙ ap Some (that j k (sym (ap (λ o. maybe o None (λ s. cond (serves nm name flags s) (Some s) None)) b) ∙ q) ∙ same_Some k s (sym (ap (λ o. maybe o (search nm name flags ps) Some) q) ∙ e))),
     ))
   where
     that : (j k : ℕ) → cond (serves nm name flags j) (Some j) None ≡ Some k → j ≡ k
     that j k h = bool_cases (serves nm name flags j) (j ≡ k)
-        (λ t. some_inj j k (sym (cond_is_true (serves nm name flags j) (Some j) None t) ∙ h))
-        (λ t. absurd (none≢some _ k (cond_is_false (serves nm name flags j) (Some j) None t) h))
+        (λ t. same_Some j k (sym (cond-true (serves nm name flags j) (Some j) None t) ∙ h))
+        (λ t. absurd (none≢some _ k (cond-false (serves nm name flags j) (Some j) None t) h))
 
 abbrev resolves_to : Fate → Option ℕ
 resolves_to (resolve_to s) = Some s
@@ -188,7 +189,7 @@ module _ (rows : List ScopeRow) (nm : Names) (leads : (p n k : ℕ) → binding 
   found_ok : (name flags k : ℕ) (ps : List ℕ) → search nm name flags ps ≡ Some k → Ok name (resolve_to k)
   found_ok name flags k ps f s h =
       let b = search_ends nm name flags k ps f in
-      subst (λ x. IsNamed nm name x) (some_inj k s (ap resolves_to h)) (leads b.0 name k b.1)
+      subst (λ x. IsNamed nm name x) (same_Some k s (ap resolves_to h)) (leads b.0 name k b.1)
 
   here_ok : (here parent : ℕ) (us : Uses) (e : UnresolvedReference) → Ok e.name.0 (fate_here rows here parent nm us e)
   unfolding fate_here

@@ -1,21 +1,23 @@
 -- Each test of the machine is the condition of its row.
-use Rattle.std.proofs.Common.{◌≡◌, ℕ, zero, suc, ◌+◌, ◌-◌, ◌/◌, ◌%◌, ◌^◌, ◌<◌, ◌≤◌, Bool, true, false, not, ◌&&◌, ◌||◌, eqb, ltb, leb, ◌≢◌, ◌⊎◌, List, [], ◌∷◌, length, Some, None, Option, sym, refl, ap, ◌∙◌, subst, ap₂, inl, inr, ⊎_elim, arith}
-use Rattle.std.proofs.lemmas.Bool.{eq-eqb, ne_eqb, eqb-true, eqb-false, ltb-true, ltb-false, leb-true, leb-false, true≢false, cases_Bool, cases_eq, cases_lt, or_cases, or_parts, and_parts, and_cases, and_left, not-true, not-false, cond-true, cond-false, or_from}
-use Rattle.std.proofs.lemmas.Nat.{pow_pos, pow_below, le-div, div_below, shr-shr}
+use Rattle.std.proofs.Common.{◌≡◌, ℕ, zero, suc, ◌+◌, ◌-◌, ◌/◌, ◌%◌, ◌^◌, ◌<◌, ◌≤◌, Bool, true, false, not, ◌&&◌, ◌||◌, eqb, ltb, leb, ◌≢◌, ◌⊎◌, List, [], ◌∷◌, length, Some, None, sym, refl, ap, ◌∙◌, subst, ap₂, inl, inr, ⊎_elim, arith}
+use Rattle.std.proofs.lemmas.Option.{same_Some}
+use Rattle.std.proofs.lemmas.Bool.{eq-eqb, ne_eqb, eqb-true, eqb-false, ltb-true, ltb-false, leb-true, true≢false, cases_Bool, cases_eq, cases_lt, and_parts, and_left, not-true, not-false, le-leb, true_from_ne_false, cond-true, cond-false, or_from}
+use Rattle.std.specs.Bool.{Decides}
+use Rattle.std.proofs.lemmas.Bool.Decides.{not_from_Decides, Decides-eqb, Decides-ltb, Decides-like, Decides-not, Decides-and, Decides-or, Decides-below_and}
+use Rattle.std.proofs.Math.Pow.{pow_mono}
+use Rattle.std.proofs.lemmas.Nat.{pow_pos, le-div, div_below, shr-shr}
 use Rattle.tables.specs.declared.refusal.Refusal.{Refusal}
 use Rattle.tables.specs.declared.refusal.Refusal.TheVariants.{UnlistedBits, UnknownKind, ModifierNotOfKind, SpanReversed, NoSuchScope, ScopesFull, DeclarationsFull, ReferencesFull, AtRoot, StartPastPending}
 use Rattle.model.specs.declared.call.Call.{Call}
 use Rattle.model.specs.declared.call.Call.TheVariants.{EnterScope, LeaveScope, Bind, DeclareReference, ResolveReferences, ResolveAllReferences}
-use Rattle.model.specs.declared.call.Answer.{Answer}
-use Rattle.model.specs.declared.call.Answer.TheVariants.{Refused}
 use Rattle.tables.specs.Flags.{less, all_scope_flags, all_reference_flags}
 use Rattle.model.specs.Kinds.{Declare, Async, IfBody, Unique, kind_row, last_kind}
-use Rattle.model.specs.Basics.{maybe}
 use Rattle.tables.specs.declared.row.ScopeRow.{ScopeRow}
 use Rattle.model.specs.State.{Machine, fresh}
 use Rattle.model.specs.Scopes.{parent_of, flags_in, is_var, passed}
-use Rattle.model.specs.Calls.{Test, first_of, refusal, after, answer, granted, granted_answer, reach, declarations_full, run, ◌if◌, most_scopes, most_references}
-use Rattle.laws.proofs.Basics.{none≢some, some_inj, option_cases, bool_cases}
+use Rattle.model.specs.Calls.{Test, first_of, refusal, reach, declarations_full, run, ◌if◌, most_scopes, most_references}
+use Rattle.laws.proofs.Basics.{none≢some, option_cases, bool_cases}
+use Rattle.laws.proofs.Granting.{refused_answers, refused_after, refused_by_answer}
 use Rattle.model.proofs.Walks.{passed_here, passed_up}
 use Rattle.laws.proofs.Tree.{Tree, has_parent}
 use Rattle.laws.proofs.Runs.{Good, fresh_good, run_good}
@@ -23,11 +25,6 @@ use Rattle.laws.proofs.FlagBits.{meets_set, set_has, flag_has, less_has, nothing
 use Rattle.laws.specs.HasFlag.{has, among}
 use Rattle.laws.specs.KindNames.{function_kind, parameter_kind, var_kind}
 use Rattle.laws.specs.Refused.{Row, FirstIs, NoneHolds, table, RefusesExactly, RefusedExactly, HasUnlisted, listed_scope_flags, listed_reference_flags, KnownKind, ambient_kinds, async_kinds, takes, HasForeignModifier, holds_vars, WayToVarScope, here, up, WritesTo, NoRoom}
-
--- a test decides a condition
-pub record Decides (b : Bool) (P : Type 0) : Type 0 where
-  pub so : b ≡ true → P
-  pub not_so : b ≡ false → ¬ P
 
 -- tests and rows, one by one
 pub Matching : List Test → List Row → Type 0
@@ -43,8 +40,8 @@ unfolding Matching
 first_refuses [] rows h r e = absurd (none≢some None r refl e)
 first_refuses (t ∷ ts) [] h r e = absurd h
 first_refuses (t ∷ ts) (row ∷ rows) (same, d, h) r e =
-    ⊎_elim (λ (b : t.holds ≡ true). inl (d.so b, sym same ∙ some_inj t.refusal r (sym (cond-true t.holds (Some t.refusal) (first_of ts) b) ∙ e)))
-    (λ (b : t.holds ≡ false). inr (d.not_so b, first_refuses ts rows h r (sym (cond-false t.holds (Some t.refusal) (first_of ts) b) ∙ e)))
+    ⊎_elim (λ (b : t.holds ≡ true). inl (d.0 b, sym same ∙ same_Some t.refusal r (sym (cond-true t.holds (Some t.refusal) (first_of ts) b) ∙ e)))
+    (λ (b : t.holds ≡ false). inr (not_from_Decides t.holds d b, first_refuses ts rows h r (sym (cond-false t.holds (Some t.refusal) (first_of ts) b) ∙ e)))
     (cases_Bool t.holds)
 
 refuses_first : (ts : List Test) (rows : List Row) → Matching ts rows → (r : Refusal) → FirstIs rows r → first_of ts ≡ Some r
@@ -53,9 +50,9 @@ refuses_first ts [] h r f = absurd f
 refuses_first [] (row ∷ rows) h r f = absurd h
 refuses_first (t ∷ ts) (row ∷ rows) (same, d, h) r f =
     ⊎_elim (λ (b : t.holds ≡ true). cond-true t.holds (Some t.refusal) (first_of ts) b
-    ∙ ⊎_elim (λ (g : row.condition × (row.refusal ≡ r)). ap Some (same ∙ g.1)) (λ (g : (¬ row.condition) × FirstIs rows r). absurd (g.0 (d.so b))) f)
+    ∙ ⊎_elim (λ (g : row.condition × (row.refusal ≡ r)). ap Some (same ∙ g.1)) (λ (g : (¬ row.condition) × FirstIs rows r). absurd (g.0 (d.0 b))) f)
     (λ (b : t.holds ≡ false). cond-false t.holds (Some t.refusal) (first_of ts) b
-    ∙ ⊎_elim (λ (g : row.condition × (row.refusal ≡ r)). absurd (d.not_so b g.0)) (λ (g : (¬ row.condition) × FirstIs rows r). refuses_first ts rows h r g.1) f)
+    ∙ ⊎_elim (λ (g : row.condition × (row.refusal ≡ r)). absurd (not_from_Decides t.holds d b g.0)) (λ (g : (¬ row.condition) × FirstIs rows r). refuses_first ts rows h r g.1) f)
     (cases_Bool t.holds)
 
 first_grants : (ts : List Test) (rows : List Row) → Matching ts rows → first_of ts ≡ None → NoneHolds rows
@@ -64,7 +61,7 @@ first_grants ts [] h e = tt
 first_grants [] (row ∷ rows) h e = absurd h
 first_grants (t ∷ ts) (row ∷ rows) (same, d, h) e =
     ⊎_elim (λ (b : t.holds ≡ true). absurd (none≢some (first_of (t ∷ ts)) t.refusal e (cond-true t.holds (Some t.refusal) (first_of ts) b)))
-    (λ (b : t.holds ≡ false). (d.not_so b, first_grants ts rows h (sym (cond-false t.holds (Some t.refusal) (first_of ts) b) ∙ e)))
+    (λ (b : t.holds ≡ false). (not_from_Decides t.holds d b, first_grants ts rows h (sym (cond-false t.holds (Some t.refusal) (first_of ts) b) ∙ e)))
     (cases_Bool t.holds)
 
 grants_first : (ts : List Test) (rows : List Row) → Matching ts rows → NoneHolds rows → first_of ts ≡ None
@@ -72,82 +69,29 @@ unfolding Matching
 grants_first [] rows h n = refl
 grants_first (t ∷ ts) [] h n = absurd h
 grants_first (t ∷ ts) (row ∷ rows) (same, d, h) (fails, n) =
-    ⊎_elim (λ (b : t.holds ≡ true). absurd (fails (d.so b)))
+    ⊎_elim (λ (b : t.holds ≡ true). absurd (fails (d.0 b)))
     (λ (b : t.holds ≡ false). cond-false t.holds (Some t.refusal) (first_of ts) b ∙ grants_first ts rows h n)
     (cases_Bool t.holds)
 
--- what is granted answers no refusal
-grants : (m : Machine) (c : Call) (r : Refusal) → granted_answer m c ≢ Refused r
-unfolding granted_answer
-grants m (EnterScope s) r e = let z : ◌≡◌ {A = ℕ} 0 1 = cc in omega arith
-grants m LeaveScope r e = let z : ◌≡◌ {A = ℕ} 0 1 = cc in omega arith
-grants m (Bind d) r e = let z : ◌≡◌ {A = ℕ} 0 1 = cc in omega arith
-grants m (DeclareReference d) r e = let z : ◌≡◌ {A = ℕ} 0 1 = cc in omega arith
-grants m (ResolveReferences start) r e = let z : ◌≡◌ {A = ℕ} 0 1 = cc in omega arith
-grants m ResolveAllReferences r e = let z : ◌≡◌ {A = ℕ} 0 1 = cc in omega arith
-
-refusal_told : (o : Option Refusal) (a : Answer) → ((r : Refusal) → a ≢ Refused r) → (r : Refusal) → maybe o a Refused ≡ Refused r → o ≡ Some r
-refusal_told None a h r e = absurd (h r e)
-refusal_told (Some q) a h r e = cc
-
 module _ (m : Machine) (c : Call) (ts : List Test) (its : refusal m c ≡ first_of ts) (h : Matching ts (table m c)) where
-  is_refused : (r : Refusal) → answer m c ≡ Refused r → refusal m c ≡ Some r
-  unfolding answer
-  is_refused r e = refusal_told (refusal m c) (granted_answer m c) (grants m c) r e
-
-  answers_refused : (r : Refusal) → refusal m c ≡ Some r → answer m c ≡ Refused r
-  unfolding answer
-  answers_refused r e = ap (λ o. maybe o (granted_answer m c) Refused) e
-
-  answers_granted : refusal m c ≡ None → (r : Refusal) → answer m c ≢ Refused r
-  answers_granted e r f = none≢some (refusal m c) r e (is_refused r f)
-
-  is_unchanged : (r : Refusal) → refusal m c ≡ Some r → after m c ≡ m
-  unfolding after
-  is_unchanged r e = ap (λ o. maybe o (granted m c) (λ n. m)) e
-
   refuses : RefusesExactly m c
   refuses =
       record {
         refused = λ r. (
-          λ e. first_refuses ts (table m c) h r (sym its ∙ is_refused r e),
-          λ f. answers_refused r (its ∙ refuses_first ts (table m c) h r f),
+          λ e. first_refuses ts (table m c) h r (sym its ∙ refused_by_answer m c r e),
+          λ f. refused_answers m c r (its ∙ refuses_first ts (table m c) h r f),
         );
-        unchanged = λ r f. is_unchanged r (its ∙ refuses_first ts (table m c) h r f);
+        unchanged = λ r f. refused_after m c r (its ∙ refuses_first ts (table m c) h r f);
         granted = (
-          λ no. option_cases (refusal m c) (NoneHolds (table m c)) (λ e. first_grants ts (table m c) h (sym its ∙ e)) (λ r e. absurd (no r (answers_refused r e))),
-          λ n. answers_granted (its ∙ grants_first ts (table m c) h n),
+          λ no. option_cases (refusal m c) (NoneHolds (table m c)) (λ e. first_grants ts (table m c) h (sym its ∙ e)) (λ r e. absurd (no r (refused_answers m c r e))),
+          λ n r e. none≢some (refusal m c) r (its ∙ grants_first ts (table m c) h n) (refused_by_answer m c r e),
         );
       }
 
 -- the tests
 
 decides_le : (a b : ℕ) → Decides (leb a b) (a ≤ b)
-decides_le a b = record { so = leb-true a b; not_so = λ e l. let k = leb-false a b e in omega arith }
-
-decides_lt : (a b : ℕ) → Decides (ltb a b) (a < b)
-decides_lt a b = record { so = ltb-true a b; not_so = λ e l. let k = ltb-false a b e in omega arith }
-
-decides_eq : (a b : ℕ) → Decides (eqb a b) (a ≡ b)
-decides_eq a b = record { so = eqb-true a b; not_so = eqb-false a b }
-
-decides_or : (x y : Bool) (P Q : Type 0) → Decides x P → Decides y Q → Decides (x || y) (P ⊎ Q)
-decides_or x y P Q p q =
-    record {
-      so = λ e. ⊎_elim (λ s. inl (p.so s)) (λ s. inr (q.so s)) (or_cases x y e);
-      not_so = λ e s. let n = or_parts x y e in ⊎_elim (p.not_so n.0) (q.not_so n.1) s;
-    }
-
-decides_and_not : (x y : Bool) (P Q : Type 0) → Decides x P → Decides y Q → Decides (x && not y) (P × (¬ Q))
-decides_and_not x y P Q p q =
-    record {
-      so = λ e. let n = and_parts x (not y) e in (p.so n.0, q.not_so (not-true y n.1));
-      not_so = λ e s. ⊎_elim (λ f. p.not_so f s.0) (λ f. s.1 (q.so (not-false y f))) (and_cases x (not y) e);
-    }
-
--- the same condition in other words
-reworded : (b : Bool) (P Q : Type 0) → (P → Q) → (Q → P) → Decides b P → Decides b Q
-reworded b P Q f g d = record { so = λ e. f (d.so e); not_so = λ e q. d.not_so e (g q) }
+decides_le a b = (leb-true a b, le-leb a b)
 
 -- listed flags
 
@@ -158,10 +102,7 @@ every (suc n) test = test n && every n test
 
 every_below : (n : ℕ) (test : ℕ → Bool) → every n test ≡ true → (k : ℕ) → k < n → test k ≡ true
 unfolding every
-every_below zero test e k l = absurd (omega arith)
-every_below (suc n) test e k l =
-    let p = and_parts (test n) (every n test) e in
-    ⊎_elim (λ (q : k ≡ n). ap test q ∙ p.0) (λ (q : k ≢ n). every_below n test p.1 k (omega arith)) (cases_eq k n)
+every_below n test = (Decides-below_and test (λ k. test k ≡ true) (λ n. every n test) (λ k. (λ e. e, λ e. e)) refl (λ _. refl) n).0
 
 -- a number is not in a list of lower ones
 all_below : ℕ → List ℕ → Bool
@@ -176,33 +117,29 @@ not_among n k (x ∷ xs) e l =
     let q = ltb-true x n p.0 in
     or_from (eqb k x) (among k xs) (ne_eqb k x (omega arith)) (not_among n k xs p.1 l)
 
-pow_le : (n k : ℕ) → n ≤ k → 2 ^ n ≤ 2 ^ k
-pow_le n k l = ⊎_elim (λ (e : n ≡ k). subst (λ x. 2 ^ n ≤ 2 ^ x) e (omega arith)) (λ (e : n ≢ k). let p = pow_below n k (omega arith) in omega arith) (cases_eq n k)
-
 -- the first n flags are listed, and no other
 unlisted : (n f : ℕ) (listed : List ℕ) → every n (λ k. among (2 ^ k) listed) ≡ true → all_below (2 ^ n) listed ≡ true → Decides (ltb (2 ^ n - 1) f) (HasUnlisted f listed)
-unlisted n f listed low high =
-    record {
-      so = λ e.
-          let l = ltb-true (2 ^ n - 1) f e in
-          let p = pow_pos n in
-          let d = le-div 1 f (2 ^ n) p (omega arith) in
-          let r = some_flag (f / 2 ^ n) (omega arith) in
-          let k = n + r.0 in
-          (2 ^ k, (k, refl), ap (λ x. eqb (x % 2) 1) (sym (shr-shr f n r.0)) ∙ r.1, not_among (2 ^ n) (2 ^ k) listed high (pow_le n k (omega arith)));
-      not_so = λ e u.
-          let l = ltb-false (2 ^ n - 1) f e in
-          let p = pow_pos n in
-          let k = u.1.0 in
-          ⊎_elim
-          (λ (b : k < n). true≢false (sym (every_below n (λ j. among (2 ^ j) listed) low k b) ∙ ap (λ x. among x listed) (sym u.1.1) ∙ u.3))
-          (λ (b : n ≤ k).
-          let w = pow_le n k b in
-          let d = div_below f (2 ^ k) 1 (pow_pos k) (omega arith) in
-          let z : f / 2 ^ k ≡ 0 = omega arith in
-          true≢false (sym u.2 ∙ ap (has f) u.1.1 ∙ ap (λ x. eqb (x % 2) 1) z))
-          (cases_lt k n);
-    }
+unlisted n f listed low high = (
+  λ e.
+      let l = ltb-true (2 ^ n - 1) f e in
+      let p = pow_pos n in
+      let d = le-div 1 f (2 ^ n) p (omega arith) in
+      let r = some_flag (f / 2 ^ n) (omega arith) in
+      let k = n + r.0 in
+      (2 ^ k, (k, refl), ap (λ x. eqb (x % 2) 1) (sym (shr-shr f n r.0)) ∙ r.1, not_among (2 ^ n) (2 ^ k) listed high (pow_mono {i = n} {j = k} (omega arith))),
+  λ u. true_from_ne_false (ltb (2 ^ n - 1) f) (λ e.
+      let l = ltb-false (2 ^ n - 1) f e in
+      let p = pow_pos n in
+      let k = u.1.0 in
+      ⊎_elim
+      (λ (b : k < n). true≢false (sym (every_below n (λ j. among (2 ^ j) listed) low k b) ∙ ap (λ x. among x listed) (sym u.1.1) ∙ u.3))
+      (λ (b : n ≤ k).
+      let w = pow_mono {i = n} {j = k} b in
+      let d = div_below f (2 ^ k) 1 (pow_pos k) (omega arith) in
+      let z : f / 2 ^ k ≡ 0 = omega arith in
+      true≢false (sym u.2 ∙ ap (has f) u.1.1 ∙ ap (λ x. eqb (x % 2) 1) z))
+      (cases_lt k n)),
+)
 
 -- modifiers
 
@@ -238,27 +175,26 @@ kind_takes (suc (suc (suc (suc (suc (suc (suc (suc (suc (suc (suc (suc (suc (suc
 
 foreign : (kind modifiers : ℕ) → Decides (not (eqb (less modifiers (kind_row kind).modifiers) 0)) (HasForeignModifier kind modifiers)
 foreign kind modifiers =
-    let set = (kind_row kind).modifiers in
-    record {
-      so = λ e.
+    let set = (kind_row kind).modifiers in (
+      λ e.
           let r = some_flag (less modifiers set) (eqb-false (less modifiers set) 0 (not-true (eqb (less modifiers set) 0) e)) in
           let k = r.0 in
           let p = and_parts (has modifiers (2 ^ k)) (not (has set (2 ^ k))) (sym (less_has k modifiers set) ∙ r.1) in
-          (2 ^ k, (k, refl), p.0, sym (kind_takes kind k) ∙ not-true (has set (2 ^ k)) p.1);
-      not_so = λ e u.
+          (2 ^ k, (k, refl), p.0, sym (kind_takes kind k) ∙ not-true (has set (2 ^ k)) p.1),
+      λ u. true_from_ne_false (not (eqb (less modifiers set) 0)) (λ e.
           let k = u.1.0 in
           let none : less modifiers set ≡ 0 = eqb-true (less modifiers set) 0 (not-false (eqb (less modifiers set) 0) e) in
           let h : has modifiers (2 ^ k) ≡ true = ap (has modifiers) (sym u.1.1) ∙ u.2 in
           let t : has set (2 ^ k) ≡ false = kind_takes kind k ∙ ap (takes kind) (sym u.1.1) ∙ u.3 in
-          true≢false (sym (ap₂ (λ x y. x && not y) h t) ∙ sym (less_has k modifiers set) ∙ ap (λ x. has x (2 ^ k)) none ∙ nothing_has k);
-    }
+          true≢false (sym (ap₂ (λ x y. x && not y) h t) ∙ sym (less_has k modifiers set) ∙ ap (λ x. has x (2 ^ k)) none ∙ nothing_has k)),
+    )
 
 unknown_kind : (kind : ℕ) → Decides (eqb kind 0 || ltb last_kind kind) (¬ KnownKind kind)
 unknown_kind kind =
-    reworded _ ((kind ≡ 0) ⊎ (last_kind < kind)) (¬ KnownKind kind)
+    Decides-like {P = (kind ≡ 0) ⊎ (last_kind < kind)} (eqb kind 0 || ltb last_kind kind)
     (λ s k. ⊎_elim (λ (e : kind ≡ 0). let l = k.0 in omega arith) (λ (e : last_kind < kind). let l = k.1 in omega arith) s)
     (λ n. ⊎_elim (λ (e : kind ≡ 0). inl e) (λ (e : kind ≢ 0). ⊎_elim (λ (l : last_kind < kind). inr l) (λ (l : kind ≤ last_kind). absurd (n (omega arith))) (cases_lt last_kind kind)) (cases_eq kind 0))
-    (decides_or (eqb kind 0) (ltb last_kind kind) (kind ≡ 0) (last_kind < kind) (decides_eq kind 0) (decides_lt last_kind kind))
+    (Decides-or (eqb kind 0) (ltb last_kind kind) (Decides-eqb kind 0) (Decides-ltb last_kind kind))
 
 -- the way of a `var`
 
@@ -318,8 +254,8 @@ module _ (m : Machine) (kind : ℕ) (good : Good m) where
       (λ (t : (n : ℕ) × WritesTo m kind n × ((256 < c + n) ⊎ (512 < h + n))).
       let e : t.0 ≡ d = writes_only t.0 t.1 in
       ⊎_elim (λ (q : 256 < c + t.0). inl (inr (subst (λ n. 256 < c + n) e q))) (λ (q : 512 < h + t.0). inr (subst (λ n. 512 < h + n) e q)) t.2) t) t in
-      reworded (declarations_full m kind) Tests (NoRoom m kind) to from
-      (decides_or _ _ _ _ (decides_or _ _ _ _ (decides_or _ _ _ _ (decides_le 512 a) (decides_lt 256 (b + 2))) (decides_lt 256 (c + d))) (decides_lt 512 (h + d)))
+      Decides-like (declarations_full m kind) to from
+      (Decides-or _ _ (Decides-or _ _ (Decides-or _ _ (decides_le 512 a) (Decides-ltb 256 (b + 2))) (Decides-ltb 256 (c + d))) (Decides-ltb 512 (h + d)))
 
 -- the calls
 
@@ -329,12 +265,12 @@ refuses_each m g (EnterScope s) =
     refuses m (EnterScope s)
     (UnlistedBits if ltb all_scope_flags s.flags.0 ∷ ScopesFull if leb most_scopes (length m.scopes) ∷ []) refl
     (refl, unlisted 12 s.flags.0 listed_scope_flags refl refl, (refl, decides_le 256 (length m.scopes), tt))
-refuses_each m g LeaveScope = refuses m LeaveScope (AtRoot if eqb m.current 0 ∷ []) refl (refl, decides_eq m.current 0, tt)
+refuses_each m g LeaveScope = refuses m LeaveScope (AtRoot if eqb m.current 0 ∷ []) refl (refl, Decides-eqb m.current 0, tt)
 refuses_each m g (Bind d) =
     refuses m (Bind d)
     (UnknownKind if (eqb d.kind 0 || ltb last_kind d.kind) ∷ ModifierNotOfKind if not (eqb (less d.modifiers (kind_row d.kind).modifiers) 0)
     ∷ SpanReversed if ltb d.end d.start ∷ DeclarationsFull if declarations_full m d.kind ∷ []) refl
-    (refl, unknown_kind d.kind, (refl, foreign d.kind d.modifiers, (refl, decides_lt d.end d.start, (refl, no_room m d.kind g, tt))))
+    (refl, unknown_kind d.kind, (refl, foreign d.kind d.modifiers, (refl, Decides-ltb d.end d.start, (refl, no_room m d.kind g, tt))))
 refuses_each m g (DeclareReference r) =
     refuses m (DeclareReference r)
     (UnlistedBits if ltb all_reference_flags r.flags.0 ∷ NoSuchScope if leb (length m.scopes) r.scope.0 ∷ ReferencesFull if leb most_references (length m.uses.references) ∷ []) refl
@@ -343,8 +279,8 @@ refuses_each m g (ResolveReferences start) =
     refuses m (ResolveReferences start)
     (AtRoot if (eqb m.current 0 && not (eqb start (length m.uses.pending))) ∷ StartPastPending if ltb (length m.uses.pending) start ∷ []) refl (
       refl,
-      decides_and_not (eqb m.current 0) (eqb start (length m.uses.pending)) (m.current ≡ 0) (start ≡ length m.uses.pending) (decides_eq m.current 0) (decides_eq start (length m.uses.pending)),
-      (refl, decides_lt (length m.uses.pending) start, tt),
+      Decides-and (eqb m.current 0) (not (eqb start (length m.uses.pending))) (Decides-eqb m.current 0) (Decides-not (eqb start (length m.uses.pending)) (Decides-eqb start (length m.uses.pending))),
+      (refl, Decides-ltb (length m.uses.pending) start, tt),
     )
 refuses_each m g ResolveAllReferences = refuses m ResolveAllReferences [] refl tt
 

@@ -1,5 +1,5 @@
 -- What every run keeps of the scopes and the names.
-use Rattle.std.proofs.Common.{◌≡◌, ℕ, zero, suc, ◌+◌, ◌<◌, Bool, true, false, not, eqb, List, [], ◌∷◌, ◌++◌, length, set, Some, None, sym, refl, ap, ◌∙◌, arith, lit<, length-append, length-set}
+use Rattle.std.proofs.Common.{◌≡◌, ℕ, zero, suc, ◌+◌, ◌<◌, Bool, true, false, not, eqb, List, [], ◌∷◌, ◌++◌, length, set, Some, None, sym, refl, ap, ◌∙◌, arith, length-append, length-set}
 use Rattle.std.proofs.lemmas.Bool.{cond_both}
 use Rattle.std.proofs.lemmas.Bool.Decides.{nat_tests}
 use Rattle.tables.specs.Flags.{meets, VarScope}
@@ -9,9 +9,10 @@ use Rattle.model.specs.declared.manner.Manner.TheVariants.{MovedOut}
 use Rattle.model.specs.Kinds.{StrictRoot, TypeScript, manner}
 use Rattle.model.specs.State.{Machine, fresh, root_row}
 use Rattle.model.specs.Scopes.{parent_of, flags_in, is_var, is_strict}
-use Rattle.model.specs.Calls.{granted, after, refusal, run, child, handed, parent_here, told}
+use Rattle.model.specs.Calls.{granted, after, run, child, handed, parent_here, told}
 use Rattle.laws.specs.BindingsLaw.{Bindings}
 use Rattle.laws.proofs.Basics.{maybe_both, none≢some, eval_apart}
+use Rattle.laws.proofs.Granting.{after_keeps}
 use Rattle.laws.proofs.Tree.{Tree, tree_push, tree_set, kept_push, kept_set}
 use Rattle.laws.proofs.Sound.{Sound, sound_none, kept_sound, declare_sound}
 
@@ -58,7 +59,7 @@ granted_good m (EnterScope x) g =
 granted_good m LeaveScope g =
     let p = parent_here m in
     let x = handed m.scopes m.current p in
-    let same : meets x.flags.0 VarScope ≡ is_var m.scopes p = ap (λ b. not (eqb b 0)) (eval_apart VarScope (lit< tt) (flags_in m.scopes p) (flags_in m.scopes m.current)) in
+    let same : meets x.flags.0 VarScope ≡ is_var m.scopes p = ap (λ b. not (eqb b 0)) (eval_apart VarScope refl (flags_in m.scopes p) (flags_in m.scopes m.current)) in
     record {
       tree = tree_set m.scopes p x refl same g.tree;
       here = simp length-set (parent_there m g);
@@ -77,8 +78,7 @@ granted_good m (ResolveReferences start) g = record { tree = g.tree; here = g.he
 granted_good m ResolveAllReferences g = record { tree = g.tree; here = g.here; sound = g.sound }
 
 pub after_good : (m : Machine) (c : Call) → Good m → Good (after m c)
-unfolding after
-after_good m c g = maybe_both (refusal m c) (granted m c) (λ n. m) Good (λ _. granted_good m c g) (λ n _. g)
+after_good m c g = after_keeps m c Good (λ _. granted_good m c g) g
 
 pub run_good : (cs : List Call) (m : Machine) → Good m → Good (run m cs)
 run_good [] m g = g

@@ -1,5 +1,6 @@
 -- How a var goes to its nearest var scope, and what its scan comes to.
 use Rattle.std.proofs.Common.{◌≡◌, ℕ, zero, suc, ◌<◌, true, false, cond, ◌⊎◌, List, [], ◌∷◌, ◌++◌, length, Some, sym, ap, ◌∙◌, subst, inl, inr, ⊎_elim, append-nil, not-suc-le-zero, arith}
+use Rattle.std.proofs.lemmas.Bool.{cond-true, cond-false}
 use Rattle.tables.specs.Flags.{meets, VarScope, ByValue}
 use Rattle.tables.specs.declared.row.ScopeRow.{ScopeRow}
 use Rattle.tables.specs.declared.row.Conflict.{Conflict}
@@ -8,7 +9,7 @@ use Rattle.model.specs.State.{Names, symbol_row, flags_of}
 use Rattle.model.specs.Scopes.{parent_of, is_var, target, passed}
 use Rattle.model.specs.Declaring.{Told, Declared, conflict_of, complain, add_symbol_redeclaration, found, declare_symbol_on_scope, move_binding, scan}
 use Rattle.laws.specs.Conflicts.{NoValue, Nearest, itself, above, StoppedBy, stopped_here, stopped_above, Reaches, reached, passes}
-use Rattle.laws.proofs.Basics.{bool_cases, option_cases, cond_is_true, cond_is_false}
+use Rattle.laws.proofs.Basics.{bool_cases, option_cases}
 use Rattle.model.proofs.Walks.{target_here, target_up, passed_here, passed_up}
 use Rattle.laws.proofs.Tree.{Tree, Passes, has_parent}
 use Rattle.laws.proofs.ComesUpon.{found_beside, none_beside, one_beside}
@@ -48,7 +49,7 @@ module _ (rows : List ScopeRow) (tree : Tree rows) where
     unfolding complain
     complains_not nm k v =
         ap (λ (xs : List Conflict). record { symbols = nm.symbols; bindings = nm.bindings; hoisting = nm.hoisting; redeclarations = nm.redeclarations; conflicts = xs })
-        (ap (λ (xs : List Conflict). nm.conflicts ++ xs) (cond_is_false (meets (flags_of nm k) d.excludes) (conflict_of d (symbol_row nm k) ∷ []) [] (mild (flags_of nm k) v)) ∙ append-nil nm.conflicts)
+        (ap (λ (xs : List Conflict). nm.conflicts ++ xs) (cond-false (meets (flags_of nm k) d.excludes) (conflict_of d (symbol_row nm k) ∷ []) [] (mild (flags_of nm k) v)) ∙ append-nil nm.conflicts)
 
     abbrev pub ScanComesTo : Names → ℕ → ℕ → Declared → Type 0
     ScanComesTo nm t s r = ((p k : ℕ) × Stops rows nm d.name p k s × (r ≡ stop d nm p t k)) ⊎ (Reaches rows nm d.name t s × (r ≡ declare_symbol_on_scope d nm t))
@@ -71,9 +72,9 @@ module _ (rows : List ScopeRow) (tree : Tree rows) where
         (λ e. on s q.0 v (λ k b. absurd (none_beside nm s d.name e k b)) q.1 (scan d t nm (passed rows s)) (scan d t nm ps) (here ∙ ap (λ o. maybe o (scan d t nm ps) (turn nm s t ps)) e) further)
         (λ k e. let found_it = here ∙ ap (λ o. maybe o (scan d t nm ps) (turn nm s t ps)) e in
         bool_cases (meets (flags_of nm k) ByValue) (ScanComesTo nm t s (scan d t nm (passed rows s)))
-        (λ val. inl (s, k, at_once v e val, found_it ∙ cond_is_true (meets (flags_of nm k) ByValue) (stop d nm s t k) _ val))
+        (λ val. inl (s, k, at_once v e val, found_it ∙ cond-true (meets (flags_of nm k) ByValue) (stop d nm s t k) _ val))
         (λ val. on s q.0 v (λ j b. ap (λ x. meets (flags_of nm x) ByValue) (one_beside nm s d.name j k b (found_beside nm s d.name k e)) ∙ val) q.1 (scan d t nm (passed rows s)) (scan d t nm ps)
-        (found_it ∙ cond_is_false (meets (flags_of nm k) ByValue) (stop d nm s t k) _ val ∙ ap (λ x. scan d t x ps) (complains_not nm k val)) further)))
+        (found_it ∙ cond-false (meets (flags_of nm k) ByValue) (stop d nm s t k) _ val ∙ ap (λ x. scan d t x ps) (complains_not nm k val)) further)))
       where
         turn : Names → ℕ → ℕ → List ℕ → ℕ → Declared
         turn nm p t ps k = cond (meets (flags_of nm k) ByValue) (stop d nm p t k) (scan d t (complain d nm k) ps)

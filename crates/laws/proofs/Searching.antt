@@ -1,6 +1,7 @@
 -- What a search along the lookup chain says of the bindings.
 use Rattle.std.proofs.Common.{◌≡◌, ℕ, zero, suc, ◌<◌, ◌≤◌, Bool, true, false, cond, not, ◌&&◌, eqb, List, [], ◌∷◌, Some, None, Option, sym, refl, ap, ◌∙◌, subst, not-suc-le-zero, arith}
-use Rattle.std.proofs.lemmas.Bool.{eqb-true, eq-eqb, true≢false, cond_both}
+use Rattle.std.proofs.lemmas.Option.{same_Some}
+use Rattle.std.proofs.lemmas.Bool.{eqb-true, eq-eqb, true≢false, cond_both, cond-true, cond-false}
 use Rattle.tables.specs.Flags.{meets, FunctionExpression}
 use Rattle.tables.specs.declared.row.ScopeRow.{ScopeRow}
 use Rattle.tables.specs.declared.row.UnresolvedReference.{UnresolvedReference}
@@ -10,14 +11,13 @@ use Rattle.model.specs.Scopes.{parent_of, climb, chain, is_below, is_plain_funct
 use Rattle.model.specs.Declaring.{binding}
 use Rattle.model.specs.Resolving.{search, serving_in, serves, can_resolve, of_arguments, ends_at}
 use Rattle.laws.specs.FirstFit.{flags_now, ServesAt, NothingAt, GoesOn, FirstServing, serves_here, serves_above, NoneServing, none_last, none_above, PassedUp, passed_last, passed_above, Below, itself, child_of}
-use Rattle.laws.proofs.Basics.{bool_cases, option_cases, cond_is_true, cond_is_false, none≢some, some_inj}
+use Rattle.laws.proofs.Basics.{bool_cases, option_cases, none≢some}
 use Rattle.model.proofs.Chains.{at_chain_more}
 use Rattle.laws.proofs.Tree.{Tree}
 
 -- tests as facts
 not_both : (a b : Bool) → (a && b) ≡ false → a ≡ true → b ≡ false
-not_both true b h k = h
-not_both false b h k = absurd (true≢false (sym k))
+not_both a b h k = grind arith
 
 serving_parts : (a b c : Bool) → (a && not (b && c)) ≡ true → (a ≡ true) × (b ≡ true → c ≡ false)
 serving_parts false b c h = absurd (true≢false (sym h))
@@ -25,9 +25,7 @@ serving_parts true b true h = (refl, λ k. absurd (true≢false (sym (sym (ap (�
 serving_parts true b false h = (refl, λ k. refl)
 
 serving_made : (a b c : Bool) → a ≡ true → (b ≡ true → c ≡ false) → (a && not (b && c)) ≡ true
-serving_made false b c h k = absurd (true≢false (sym h))
-serving_made true false c h k = refl
-serving_made true true c h k = ap not (k refl)
+serving_made a b c h k = grind arith
 
 module _ (m : Machine) (e : UnresolvedReference) where
   abbrev rows : List ScopeRow
@@ -60,15 +58,15 @@ module _ (m : Machine) (e : UnresolvedReference) where
       (λ b. absurd (none≢some None k refl (sym (ap (λ o. maybe o None tried) b) ∙ h)))
       (λ j b. let t : tried j ≡ Some k = sym (ap (λ o. maybe o None tried) b) ∙ h in
       bool_cases (good j) (ServesAt m e s k)
-      (λ y. let jk : j ≡ k = some_inj j k (sym (cond_is_true (good j) (Some j) None y) ∙ t) in
+      (λ y. let jk : j ≡ k = same_Some j k (sym (cond-true (good j) (Some j) None y) ∙ t) in
       let parts = serving_parts (can_resolve flags (flags_of m.names k)) (of_arguments name flags) (meets (flags_of m.names k) FunctionExpression) (sym (ap good jk) ∙ y) in
       record { bound = b ∙ ap Some jk; can = parts.0; no_expression = parts.1 })
-      (λ y. absurd (none≢some _ k (cond_is_false (good j) (Some j) None y) t)))
+      (λ y. absurd (none≢some _ k (cond-false (good j) (Some j) None y) t)))
 
   serves_none : (s : ℕ) → look s ≡ None → NothingAt m e s
   serves_none s h k f =
       none≢some (look s) k h (ap (λ o. maybe o None tried) f.bound
-      ∙ cond_is_true (good k) (Some k) None (serving_made (can_resolve flags (flags_of m.names k)) (of_arguments name flags) (meets (flags_of m.names k) FunctionExpression) f.can f.no_expression))
+      ∙ cond-true (good k) (Some k) None (serving_made (can_resolve flags (flags_of m.names k)) (of_arguments name flags) (meets (flags_of m.names k) FunctionExpression) f.can f.no_expression))
 
   goes_on : (s p : ℕ) → parent_of rows s ≡ Some p → ends s ≡ false → GoesOn m e s p
   goes_on s p n t = record { parent = n; no_end = not_both (of_arguments name flags) (is_plain_function rows s) t }
@@ -104,10 +102,10 @@ module _ (m : Machine) (e : UnresolvedReference) where
       search_cons s (cond (ends s) [] (until ends (rest f s))) (λ o. o ≡ Some k → Goal)
       (λ j q e2. (s, serves_here (serves_some s k (q ∙ e2))))
       (λ q e2. bool_cases (ends s) Goal
-      (λ t. absurd (no_some k (sym (ap searched (cond_is_true (ends s) [] _ t)) ∙ e2)))
+      (λ t. absurd (no_some k (sym (ap searched (cond-true (ends s) [] _ t)) ∙ e2)))
       (λ t. option_cases (parent_of rows s) Goal
-      (λ n. absurd (no_some k (sym (ap searched (cond_is_false (ends s) [] _ t) ∙ ap (λ o. searched (until ends (maybe o [] (climb rows f)))) n) ∙ e2)))
-      (λ p n. let r : (t : ℕ) × FirstServing m e p t k = first_from f p k (sym (ap searched (cond_is_false (ends s) [] _ t) ∙ ap (λ o. searched (until ends (maybe o [] (climb rows f)))) n) ∙ e2) in
+      (λ n. absurd (no_some k (sym (ap searched (cond-false (ends s) [] _ t) ∙ ap (λ o. searched (until ends (maybe o [] (climb rows f)))) n) ∙ e2)))
+      (λ p n. let r : (t : ℕ) × FirstServing m e p t k = first_from f p k (sym (ap searched (cond-false (ends s) [] _ t) ∙ ap (λ o. searched (until ends (maybe o [] (climb rows f)))) n) ∙ e2) in
       (r.0, serves_above (serves_none s q) (goes_on s p n t) r.1))))
       h
 
@@ -123,7 +121,7 @@ module _ (m : Machine) (e : UnresolvedReference) where
         (λ t. option_cases (parent_of rows s) Goal
         (λ n. (s, none_last (serves_none s q) (λ p g. none≢some _ p n g.parent)))
         (λ p n. let lo : p < s = tree.lower s p n in
-        let r : (t : ℕ) × NoneServing m e p t = none_from f p (omega arith) (sym (ap searched (cond_is_false (ends s) [] _ t) ∙ ap (λ o. searched (until ends (maybe o [] (climb rows f)))) n) ∙ e2) in
+        let r : (t : ℕ) × NoneServing m e p t = none_from f p (omega arith) (sym (ap searched (cond-false (ends s) [] _ t) ∙ ap (λ o. searched (until ends (maybe o [] (climb rows f)))) n) ∙ e2) in
         (r.0, none_above (serves_none s q) (goes_on s p n t) r.1))))
         h
 
@@ -137,10 +135,10 @@ module _ (m : Machine) (e : UnresolvedReference) where
     reaches f s = any stop (climb rows f s)
 
     reaches_on : (f s p : ℕ) → stop s ≡ false → parent_of rows s ≡ Some p → reaches (suc f) s ≡ reaches f p
-    reaches_on f s p u n = cond_is_false (stop s) true _ u ∙ ap (λ o. any stop (maybe o [] (climb rows f))) n
+    reaches_on f s p u n = cond-false (stop s) true _ u ∙ ap (λ o. any stop (maybe o [] (climb rows f))) n
 
     reaches_not : (f s : ℕ) → stop s ≡ false → parent_of rows s ≡ None → reaches (suc f) s ≡ true → ⊥
-    reaches_not f s u n b = true≢false (sym b ∙ cond_is_false (stop s) true _ u ∙ ap (λ o. any stop (maybe o [] (climb rows f))) n)
+    reaches_not f s u n b = true≢false (sym b ∙ cond-false (stop s) true _ u ∙ ap (λ o. any stop (maybe o [] (climb rows f))) n)
 
     pub below_from : (f s : ℕ) → reaches f s ≡ true → Below m here s
     below_from zero s b = absurd (true≢false (sym b))
@@ -158,7 +156,7 @@ module _ (m : Machine) (e : UnresolvedReference) where
     -- it is the part of the parent
     tail_on : (f s p : ℕ) → stop s ≡ false → ends s ≡ false → parent_of rows s ≡ Some p → tail f s ≡ until stop (until ends (climb rows f p))
     tail_on f s p h t n =
-        cond_is_false (stop s) [] _ h ∙ ap (until stop) (cond_is_false (ends s) [] _ t) ∙ ap (λ o. until stop (until ends (maybe o [] (climb rows f)))) n
+        cond-false (stop s) [] _ h ∙ ap (until stop) (cond-false (ends s) [] _ t) ∙ ap (λ o. until stop (until ends (maybe o [] (climb rows f)))) n
 
     pub part_first : (f s k : ℕ) → reaches f s ≡ true → searched (until stop (until ends (climb rows f s))) ≡ Some k → (t : ℕ) × FirstServing m e s t k × Below m here t
     part_first zero s k b h = absurd (no_some k h)
@@ -167,9 +165,9 @@ module _ (m : Machine) (e : UnresolvedReference) where
         search_cons s (tail f s) (λ o. o ≡ Some k → Goal)
         (λ j q e2. (s, serves_here (serves_some s k (q ∙ e2)), below_from (suc f) s b))
         (λ q e2. bool_cases (stop s) Goal
-        (λ t. absurd (no_some k (sym (ap searched (cond_is_true (stop s) [] _ t)) ∙ e2)))
+        (λ t. absurd (no_some k (sym (ap searched (cond-true (stop s) [] _ t)) ∙ e2)))
         (λ u. bool_cases (ends s) Goal
-        (λ t. absurd (no_some k (sym (ap searched (cond_is_false (stop s) [] _ u ∙ ap (until stop) (cond_is_true (ends s) [] _ t))) ∙ e2)))
+        (λ t. absurd (no_some k (sym (ap searched (cond-false (stop s) [] _ u ∙ ap (until stop) (cond-true (ends s) [] _ t))) ∙ e2)))
         (λ t. option_cases (parent_of rows s) Goal
         (λ n. absurd (reaches_not f s u n b))
         (λ p n. let r : (t : ℕ) × FirstServing m e p t k × Below m here t = part_first f p k (sym (reaches_on f s p u n) ∙ b) (sym (ap searched (tail_on f s p u t n)) ∙ e2) in
@@ -181,7 +179,7 @@ module _ (m : Machine) (e : UnresolvedReference) where
     over f s = any ends (cond (stop s) [] (until stop (rest f s)))
 
     over_on : (f s p : ℕ) → stop s ≡ false → parent_of rows s ≡ Some p → over f s ≡ any ends (until stop (climb rows f p))
-    over_on f s p h n = ap (any ends) (cond_is_false (stop s) [] _ h ∙ ap (λ o. until stop (maybe o [] (climb rows f))) n)
+    over_on f s p h n = ap (any ends) (cond-false (stop s) [] _ h ∙ ap (λ o. until stop (maybe o [] (climb rows f))) n)
 
     pub part_ended : (f s : ℕ) → reaches f s ≡ true → searched (until stop (until ends (climb rows f s))) ≡ None → any ends (until stop (climb rows f s)) ≡ true
         → (t : ℕ) × NoneServing m e s t × Below m here t
@@ -192,9 +190,9 @@ module _ (m : Machine) (e : UnresolvedReference) where
         (λ j q e2. absurd (none≢some (Some j) j e2 refl))
         (λ q e2. bool_cases (ends s) Goal
         (λ t. (s, none_last (serves_none s q) (λ p g. ended s p t g), below_from (suc f) s b))
-        (λ t. let a2 : over f s ≡ true = sym (cond_is_false (ends s) true _ t) ∙ a in
+        (λ t. let a2 : over f s ≡ true = sym (cond-false (ends s) true _ t) ∙ a in
         bool_cases (stop s) Goal
-        (λ u. absurd (true≢false (sym a2 ∙ ap (any ends) (cond_is_true (stop s) [] _ u))))
+        (λ u. absurd (true≢false (sym a2 ∙ ap (any ends) (cond-true (stop s) [] _ u))))
         (λ u. option_cases (parent_of rows s) Goal
         (λ n. absurd (reaches_not f s u n b))
         (λ p n. let r : (t : ℕ) × NoneServing m e p t × Below m here t =
@@ -209,8 +207,8 @@ module _ (m : Machine) (e : UnresolvedReference) where
         search_cons s (tail f s) (λ o. o ≡ None → PassedUp m e here p s)
         (λ j q e2. absurd (none≢some (Some j) j e2 refl))
         (λ q e2. bool_cases (ends s) (PassedUp m e here p s)
-        (λ t. absurd (true≢false (sym (cond_is_true (ends s) true _ t) ∙ a)))
-        (λ t. let a2 : over f s ≡ false = sym (cond_is_false (ends s) true _ t) ∙ a in
+        (λ t. absurd (true≢false (sym (cond-true (ends s) true _ t) ∙ a)))
+        (λ t. let a2 : over f s ≡ false = sym (cond-false (ends s) true _ t) ∙ a in
         bool_cases (stop s) (PassedUp m e here p s)
         (λ u. let hs : here ≡ s = eqb-true here s u in
         subst (PassedUp m e here p) hs (passed_last (subst (NothingAt m e) (sym hs) (serves_none s q)) (goes_on here p up (ap ends hs ∙ t))))
@@ -223,7 +221,7 @@ module _ (m : Machine) (e : UnresolvedReference) where
     -- a scope below here has it on its chain
     pub below_is : Tree rows → (s : ℕ) → Below m here s → is_below rows here s ≡ true
     unfolding is_below chain
-    below_is tree s itself = cond_is_true (eqb s s) true _ (eq-eqb s s refl)
+    below_is tree s itself = cond-true (eqb s s) true _ (eq-eqb s s refl)
     below_is tree s (child_of {p = p} n b) =
         at_chain_more rows tree.lower (any (eqb here)) s p n
         ∙ cond_both (eqb here s) true (is_below rows here p) (λ x. x ≡ true) (λ _. refl) (λ _. below_is tree p b)

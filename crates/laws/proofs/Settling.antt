@@ -1,7 +1,7 @@
 -- What a call that settles pending entries makes of them, one after the other.
-use Rattle.std.proofs.Common.{◌≡◌, ℕ, ◌<◌, cond, ◌⊎◌, List, [], ◌∷◌, ◌++◌, length, Some, sym, refl, ap, ◌∙◌, subst, inl, inr, ⊎_elim, append_assoc, append-nil, arith, get_or-set_other, get_or-set_same}
+use Rattle.std.proofs.Common.{◌≡◌, ℕ, ◌<◌, ◌⊎◌, List, [], ◌∷◌, ◌++◌, length, Some, sym, refl, ap, ◌∙◌, subst, inl, inr, ⊎_elim, append_assoc, append-nil, arith, get_or-set_other, get_or-set_same}
 use mathlib.Core.List.Memᴰ
-use Rattle.std.proofs.lemmas.Bool.{eqb-true, eq-eqb, cases_lt}
+use Rattle.std.proofs.lemmas.Bool.{cases_lt}
 use Rattle.std.specs.List.{AllByRecursion}
 use Rattle.tables.specs.declared.id.Name.{Name}
 use Rattle.tables.specs.declared.id.ReferenceId.{ReferenceId}
@@ -9,32 +9,14 @@ use Rattle.tables.specs.declared.row.ReferenceRow.{ReferenceRow}
 use Rattle.tables.specs.declared.row.UnresolvedReference.{UnresolvedReference}
 use Rattle.tables.specs.declared.row.ResolvedReference.{ResolvedReference}
 use Rattle.tables.specs.declared.row.RootReference.{RootReference}
-use Rattle.stores.specs.Pairs.{Pairs, put}
-use Rattle.stores.specs.Keys.{same_name}
-use Rattle.model.specs.Basics.{maybe, the_name, the_symbol}
+use Rattle.model.specs.Basics.{the_symbol}
 use Rattle.model.specs.State.{Machine, Uses, no_reference, reference_row, use_flags, flags_of}
-use Rattle.model.specs.Resolving.{Fate, resolve_to, list_at_root, stay, settle, settle_all, resolved_row, resolved_flags, list_number, with_list, deferred as put_off}
+use Rattle.model.specs.Resolving.{Fate, resolve_to, list_at_root, stay, settle, settle_all, resolved_row, resolved_flags, list_number, deferred as put_off}
 use Rattle.laws.specs.FirstFit.{◌∈◌, FirstServing, NoneServing, PassedUp, ResolvedAs, RootListedAs, DeferredAs, Settled, no_more, resolved, root_listed, outside, deferred}
 use Rattle.laws.specs.OnceLaw.{of_pending}
-use Rattle.laws.proofs.Basics.{bool_cases, option_cases, cond_is_true, cond_is_false, none≢some}
+use Rattle.laws.proofs.Numbering.{listed_here, listed_still}
 use Rattle.laws.proofs.Weights.{one_here}
 use Rattle.laws.proofs.Single.{times_there, Single, settle_single, settle_rows}
-
--- root lists: a name's list is there once it was needed, and stays
-pub list_there : (roots : Pairs Name) (n : ℕ) → (with_list roots n).get (the_name n) ≡ Some (list_number roots n)
-list_there roots n =
-    option_cases (roots.get (the_name n)) ((with_list roots n).get (the_name n) ≡ Some (list_number roots n))
-    (λ h. ap (λ o. (maybe o (put same_name roots (the_name n) roots.size) (λ k. roots)).get (the_name n)) h ∙ cond_is_true (same_name (the_name n) (the_name n)) _ _ (eq-eqb n n refl) ∙ ap (λ o. Some (maybe o roots.size (λ k. k))) (sym h))
-    (λ k h. ap (λ o. (maybe o (put same_name roots (the_name n) roots.size) (λ k. roots)).get (the_name n)) h ∙ h ∙ ap (λ o. Some (maybe o roots.size (λ k. k))) (sym h))
-
-pub list_kept : (roots : Pairs Name) (n : ℕ) (q : Name) (k : ℕ) → roots.get q ≡ Some k → (with_list roots n).get q ≡ Some k
-list_kept roots n q k e =
-    option_cases (roots.get (the_name n)) ((with_list roots n).get q ≡ Some k)
-    (λ h. ap (λ o. (maybe o (put same_name roots (the_name n) roots.size) (λ k. roots)).get q) h
-    ∙ bool_cases (same_name q (the_name n)) (cond (same_name q (the_name n)) (Some roots.size) (roots.get q) ≡ Some k)
-    (λ t. absurd (none≢some (roots.get q) k (ap (λ x. roots.get (the_name x)) (eqb-true q.0 n t) ∙ h) e))
-    (λ t. cond_is_false (same_name q (the_name n)) _ _ t ∙ e))
-    (λ j h. ap (λ o. (maybe o (put same_name roots (the_name n) roots.size) (λ k. roots)).get q) h ∙ e)
 
 -- who is next is not among the others, and has a row
 pub apart : (us : Uses) (e : UnresolvedReference) (es : List UnresolvedReference) → Single us (e ∷ es) → (x : UnresolvedReference) → x ∈ es → x.reference.0 ≡ e.reference.0 → ⊥
@@ -145,10 +127,10 @@ module _ (m : Machine) (Looks : ℕ → Type 0) where
         pending_is = w.pending_is;
         resolved_is = w.resolved_is;
         root_is = w.root_is ∙ append_assoc us.root (k ∷ []) w.now_listed;
-        each = root_listed (record { same_reference = refl; last = a.0; none = a.1; looked = a.2; list_of_name = w.lists_stay e.name (list_number us.roots e.name.0) (list_there us.roots e.name.0) }) w.each;
+        each = root_listed (record { same_reference = refl; last = a.0; none = a.1; looked = a.2; list_of_name = w.lists_stay e.name (list_number us.roots e.name.0) (listed_here us.roots e.name.0) }) w.each;
         other_rows = w.other_rows;
         same_count = w.same_count;
-        lists_stay = λ n i h. w.lists_stay n i (list_kept us.roots e.name.0 n i h);
+        lists_stay = λ n i h. w.lists_stay n i (listed_still us.roots e.name.0 n.0 i h);
         none_left = w.none_left;
       }
   step us us' e es (stay p) a o same w =

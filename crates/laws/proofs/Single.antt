@@ -9,10 +9,10 @@ use Rattle.model.specs.declared.call.NewReference.{NewReference}
 use Rattle.model.specs.Basics.{the_reference}
 use Rattle.model.specs.State.{Machine, Names, Uses, fresh}
 use Rattle.model.specs.Resolving.{Fate, resolve_to, list_at_root, stay, settle, settle_all, keep_pending, resolve_here, resolve_end}
-use Rattle.model.specs.Calls.{granted, after, refusal, run, refer}
+use Rattle.model.specs.Calls.{granted, after, run, refer}
 use Rattle.laws.specs.FirstFit.{◌∈◌}
 use Rattle.laws.specs.OnceLaw.{sum_of, of_pending, weight, one}
-use Rattle.laws.proofs.Basics.{maybe_both}
+use Rattle.laws.proofs.Granting.{after_keeps}
 use Rattle.laws.proofs.Weights.{sum_append, settle_weight, one_here, one_apart}
 
 -- how often a reference stands in a column
@@ -113,8 +113,7 @@ granted_single m (ResolveReferences start) o = settle_all_single m.names _ (drop
 granted_single m ResolveAllReferences o = settle_all_single m.names _ m.uses.pending _ (taken_single m.uses 0 o)
 
 pub after_single : (m : Machine) (c : Call) → KeptSingle m → KeptSingle (after m c)
-unfolding after
-after_single m c o = maybe_both (refusal m c) (granted m c) (λ n. m) KeptSingle (λ _. granted_single m c o) (λ n _. o)
+after_single m c o = after_keeps m c KeptSingle (λ _. granted_single m c o) o
 
 pub run_single : (cs : List Call) (m : Machine) → KeptSingle m → KeptSingle (run m cs)
 run_single [] m o = o

@@ -1,8 +1,9 @@
 -- What declarations keep: bindings lead to symbols of their name and scope, and where a name was hoisted from, the nearest var scope binds it.
 use Rattle.std.proofs.Common.{◌≡◌, ℕ, suc, pred, ◌<◌, ◌≤◌, true, false, cond, ◌≢◌, ◌⊎◌, List, [], ◌∷◌, length, is_some, Some, None, sym, refl, ap, ◌∙◌, subst, inl, inr, ⊎_elim, arith, length-append, length-set, get_or-set_other, get_or-set_same}
+use Rattle.std.proofs.lemmas.Option.{same_Some}
 use lib.ListN.{get_or-append}
 use lib.Seq.{get_or-append_seam}
-use Rattle.std.proofs.lemmas.Bool.{true≢false, cond_both}
+use Rattle.std.proofs.lemmas.Bool.{true≢false, cond_both, cond-true, cond-false}
 use Rattle.std.specs.List.{AllByRecursion}
 use Rattle.tables.specs.Flags.{meets, ByValue, FunctionExpression}
 use Rattle.tables.specs.declared.row.ScopeRow.{ScopeRow}
@@ -15,7 +16,7 @@ use Rattle.model.specs.State.{Names, no_names, no_symbol, symbol_row, flags_of}
 use Rattle.model.specs.Scopes.{is_var, passed, target, conditional_scope}
 use Rattle.model.specs.Declaring.{relocate, Told, Declared, binding, hoisted, complain, add_symbol_redeclaration, unite, found, not_expression, declare_shadow_symbol, declare_symbol_on_scope, move_binding, scan, hoist_all, with_hoisted, declare_var, declare_moved_out, declare, with_scope}
 use Rattle.laws.specs.BindingsLaw.{IsOf}
-use Rattle.laws.proofs.Basics.{set_keeps, maybe_both, bool_cases, option_cases, cond_is_true, cond_is_false, none≢some, some_inj, same_true, same_refl, is_some_from, from_is_some}
+use Rattle.laws.proofs.Basics.{set_keeps, maybe_both, bool_cases, option_cases, none≢some, same_true, same_refl, is_some_from, from_is_some}
 use Rattle.laws.proofs.Tree.{Tree, Passes, passed_all, target_var, Kept, target_kept}
 
 -- the name is bound in the scope
@@ -74,12 +75,12 @@ module _ (rows : List ScopeRow) where
     unfolding declare_shadow_symbol
     make_binds_all scope s n b =
         bool_cases (same_scope_and_name (place s n) (place scope d.name)) (Binds (declare_shadow_symbol d nm scope).names s n)
-        (λ t. (length nm.symbols, cond_is_true (same_scope_and_name (place s n) (place scope d.name)) _ _ t))
-        (λ t. (b.0, cond_is_false (same_scope_and_name (place s n) (place scope d.name)) _ _ t ∙ b.1))
+        (λ t. (length nm.symbols, cond-true (same_scope_and_name (place s n) (place scope d.name)) _ _ t))
+        (λ t. (b.0, cond-false (same_scope_and_name (place s n) (place scope d.name)) _ _ t ∙ b.1))
 
     pub make_binds : (scope : ℕ) → binding (declare_shadow_symbol d nm scope).names scope d.name ≡ Some (declare_shadow_symbol d nm scope).symbol
     unfolding declare_shadow_symbol
-    make_binds scope = cond_is_true (same_scope_and_name (place scope d.name) (place scope d.name)) _ _ (same_refl scope d.name)
+    make_binds scope = cond-true (same_scope_and_name (place scope d.name) (place scope d.name)) _ _ (same_refl scope d.name)
 
     pub make_sound : (scope : ℕ) → Sound rows nm → Sound rows (declare_shadow_symbol d nm scope).names
     unfolding declare_shadow_symbol
@@ -87,7 +88,7 @@ module _ (rows : List ScopeRow) where
         record {
           leads = λ a n k e. bool_cases (same_scope_and_name (place a n) (place scope d.name)) (IsOf (declare_shadow_symbol d nm scope).names a n k)
               (λ t.
-              let kk : length nm.symbols ≡ k = some_inj _ _ (sym (cond_is_true (same_scope_and_name (place a n) (place scope d.name)) _ _ t) ∙ e) in
+              let kk : length nm.symbols ≡ k = same_Some _ _ (sym (cond-true (same_scope_and_name (place a n) (place scope d.name)) _ _ t) ∙ e) in
               let an = same_true a scope n d.name t in
               let row = get_or-append_seam nm.symbols (record { name = the_name d.name; start = d.start; end = d.end; flags = symbol_flags d.includes; scope = the_scope scope; node = the_node d.node }) [] no_symbol in
               record {
@@ -96,7 +97,7 @@ module _ (rows : List ScopeRow) where
                 its_scope = ap (λ j. (symbol_row (declare_shadow_symbol d nm scope).names j).scope.0) (sym kk) ∙ ap (λ (r : SymbolRow). r.scope.0) row ∙ sym an.0;
               })
               (λ t.
-              let i = h.leads a n k (sym (cond_is_false (same_scope_and_name (place a n) (place scope d.name)) _ _ t) ∙ e) in
+              let i = h.leads a n k (sym (cond-false (same_scope_and_name (place a n) (place scope d.name)) _ _ t) ∙ e) in
               let row = get_or-append nm.symbols (record { name = the_name d.name; start = d.start; end = d.end; flags = symbol_flags d.includes; scope = the_scope scope; node = the_node d.node } ∷ []) no_symbol k i.there in
               record {
                 there = let l = i.there in simp length-append (omega arith);
@@ -118,11 +119,11 @@ module _ (rows : List ScopeRow) where
     move_binds =
         cond_both (is_some (binding nm to name)) nm moved (λ x. Binds x to name)
         (λ t. from_is_some (binding nm to name) t)
-        (λ t. (s, cond_is_true (same_scope_and_name (place to name) (place to name)) _ _ (same_refl to name)))
+        (λ t. (s, cond-true (same_scope_and_name (place to name) (place to name)) _ _ (same_refl to name)))
 
     pub move_stays : is_some (binding nm to name) ≡ true → move_binding nm from to name s ≡ nm
     unfolding move_binding
-    move_stays t = cond_is_true (is_some (binding nm to name)) nm moved t
+    move_stays t = cond-true (is_some (binding nm to name)) nm moved t
 
     module _ (out : is_var rows from ≡ false) (at_from : binding nm from name ≡ Some s) (lacks : is_some (binding nm to name) ≡ false) (h : Sound rows nm) where
       at_s : IsOf nm from name s
@@ -132,16 +133,16 @@ module _ (rows : List ScopeRow) where
       moved_other : (a n k : ℕ) → same_scope_and_name (place a n) (place to name) ≡ false → binding moved a n ≡ Some k
           → (same_scope_and_name (place a n) (place from name) ≡ false) × (binding nm a n ≡ Some k)
       moved_other a n k t e =
-          let e2 = sym (cond_is_false (same_scope_and_name (place a n) (place to name)) (Some s) _ t) ∙ e in
+          let e2 = sym (cond-false (same_scope_and_name (place a n) (place to name)) (Some s) _ t) ∙ e in
           bool_cases (same_scope_and_name (place a n) (place from name)) ((same_scope_and_name (place a n) (place from name) ≡ false) × (binding nm a n ≡ Some k))
-          (λ u. absurd (none≢some _ k (cond_is_true (same_scope_and_name (place a n) (place from name)) None (binding nm a n) u) e2))
-          (λ u. (u, sym (cond_is_false (same_scope_and_name (place a n) (place from name)) None _ u) ∙ e2))
+          (λ u. absurd (none≢some _ k (cond-true (same_scope_and_name (place a n) (place from name)) None (binding nm a n) u) e2))
+          (λ u. (u, sym (cond-false (same_scope_and_name (place a n) (place from name)) None _ u) ∙ e2))
 
       moved_leads : (a n k : ℕ) → binding moved a n ≡ Some k → IsOf moved a n k
       moved_leads a n k e =
           bool_cases (same_scope_and_name (place a n) (place to name)) (IsOf moved a n k)
           (λ t.
-          let ks : s ≡ k = some_inj _ _ (sym (cond_is_true (same_scope_and_name (place a n) (place to name)) (Some s) _ t) ∙ e) in
+          let ks : s ≡ k = same_Some _ _ (sym (cond-true (same_scope_and_name (place a n) (place to name)) (Some s) _ t) ∙ e) in
           let an = same_true a to n name t in
           let row = get_or-set_same nm.symbols s (with_scope (symbol_row nm s) to) no_symbol at_s.there in
           record {
@@ -174,8 +175,8 @@ module _ (rows : List ScopeRow) where
             lies = i.lies;
             no_var = i.no_var;
             above = bool_cases (same_scope_and_name (place up n) (place to name)) (Binds moved up n)
-                (λ t. (s, cond_is_true (same_scope_and_name (place up n) (place to name)) (Some s) _ t))
-                (λ t. (i.above.0, cond_is_false (same_scope_and_name (place up n) (place to name)) (Some s) _ t ∙ cond_is_false (same_scope_and_name (place up n) (place from name)) None _ apart ∙ i.above.1));
+                (λ t. (s, cond-true (same_scope_and_name (place up n) (place to name)) (Some s) _ t))
+                (λ t. (i.above.0, cond-false (same_scope_and_name (place up n) (place to name)) (Some s) _ t ∙ cond-false (same_scope_and_name (place up n) (place from name)) None _ apart ∙ i.above.1));
           }
 
       moved_size : moved.bindings.size ≤ length moved.symbols
@@ -183,8 +184,8 @@ module _ (rows : List ScopeRow) where
           let b = nm.bindings.size in
           let gone : is_some (cond (same_scope_and_name (place to name) (place from name)) None (binding nm to name)) ≡ false =
           cond_both (same_scope_and_name (place to name) (place from name)) None (binding nm to name) (λ x. is_some x ≡ false) (λ _. refl) (λ _. lacks) in
-          let less : cond (is_some (binding nm from name)) (pred b) b ≡ pred b = cond_is_true (is_some (binding nm from name)) (pred b) b (is_some_from _ s at_from) in
-          let size : moved.bindings.size ≡ suc (pred b) = cond_is_false _ _ _ gone ∙ ap suc less in
+          let less : cond (is_some (binding nm from name)) (pred b) b ≡ pred b = cond-true (is_some (binding nm from name)) (pred b) b (is_some_from _ s at_from) in
+          let size : moved.bindings.size ≡ suc (pred b) = cond-false _ _ _ gone ∙ ap suc less in
           let l = h.no_more in
           let l2 = at_s.there in
           subst (λ x. x ≤ length moved.symbols) (sym size) (simp length-set (omega arith))
@@ -209,7 +210,7 @@ module _ (rows : List ScopeRow) where
                 no_var = ap (is_var rows) qn.0 ∙ out;
                 above = (b.0, ap (λ x. binding nm (target rows x) n) qn.0 ∙ ap (λ x. binding nm (target rows p) x) qn.1 ∙ b.1);
               })
-              (λ t. let i = h.hoists q n k (sym (cond_is_false (same_scope_and_name (place q n) (place p name)) (Some s) _ t) ∙ e) in
+              (λ t. let i = h.hoists q n k (sym (cond-false (same_scope_and_name (place q n) (place p name)) (Some s) _ t) ∙ e) in
               record { lies = i.lies; no_var = i.no_var; above = i.above });
           no_more = h.no_more;
         }
@@ -226,8 +227,8 @@ module _ (rows : List ScopeRow) where
     where
       only : (k : ℕ) → not_expression nm k ≡ Some s → k ≡ s
       only k q = bool_cases (meets (flags_of nm k) FunctionExpression) (k ≡ s)
-          (λ t. absurd (none≢some _ s (cond_is_true (meets (flags_of nm k) FunctionExpression) None (Some k) t) q))
-          (λ t. some_inj k s (sym (cond_is_false (meets (flags_of nm k) FunctionExpression) None (Some k) t) ∙ q))
+          (λ t. absurd (none≢some _ s (cond-true (meets (flags_of nm k) FunctionExpression) None (Some k) t) q))
+          (λ t. same_Some k s (sym (cond-false (meets (flags_of nm k) FunctionExpression) None (Some k) t) ∙ q))
 
   module _ (tree : Tree rows) (d : Told) where
     -- a declaration beside a symbol that is there

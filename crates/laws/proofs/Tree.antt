@@ -1,5 +1,6 @@
 -- Scopes, and what lies on their chains.
 use Rattle.std.proofs.Common.{◌≡◌, ℕ, zero, suc, ◌<◌, ◌≤◌, true, false, cond, List, [], ◌∷◌, ◌++◌, length, set, Some, None, Option, sym, refl, ap, ◌∙◌, subst, ⊎_elim, not-suc-le-zero, arith, length-append, length-set}
+use Rattle.std.proofs.lemmas.Option.{same_Some}
 use lib.ListN.{get_or-append}
 use lib.Seq.{get_or-append_seam}
 use Rattle.std.proofs.lemmas.Bool.{true≢false, cases_lt}
@@ -12,7 +13,7 @@ use Rattle.model.specs.Basics.{maybe, scope_number, first}
 use Rattle.model.specs.State.{no_scope}
 use Rattle.model.specs.Scopes.{parent_of, is_var, climb, chain, passed, target}
 use Rattle.model.proofs.Walks.{target_here, target_up, passed_here, passed_up}
-use Rattle.laws.proofs.Basics.{set_keeps, bool_cases, option_cases, none≢some, some_inj}
+use Rattle.laws.proofs.Basics.{set_keeps, bool_cases, option_cases, none≢some}
 
 -- every scope but the root has a parent of a lower number; the root has none, and is a var scope
 pub record Tree (rows : List ScopeRow) : Type 0 where
@@ -93,7 +94,7 @@ module _ (rows : List ScopeRow) (x : ScopeRow) where
   pub tree_push : Tree rows → (c : ℕ) → c < length rows → scope_number x.parent ≡ Some c → Tree (rows ++ x ∷ [])
   tree_push tree c h e =
       record {
-        lower = tree_rows.tree_push rows x tree.lower (λ p q. subst (λ n. n < length rows) (some_inj c p (sym e ∙ q)) h);
+        lower = tree_rows.tree_push rows x tree.lower (λ p q. subst (λ n. n < length rows) (same_Some c p (sym e ∙ q)) h);
         only_root = λ s l q. ⊎_elim (λ k. tree.only_root s k (sym (kept_push.parents s k) ∙ q))
             (λ (k : length rows ≤ s). let z : s ≡ length rows = omega (arith, simp length-append at l) in
             absurd (none≢some (scope_number x.parent) c (sym (ap (λ n. parent_of (rows ++ x ∷ []) n) z ∙ ap (λ (r : ScopeRow). scope_number r.parent) (get_or-append_seam rows x [] no_scope)) ∙ q) e))

@@ -1,5 +1,5 @@
 -- Conflicts and redeclarations: which symbol a declaration comes upon, and what it then writes.
-use Rattle.std.specs.Prelude.{◌≡◌, ℕ, Bool, true, false, ◌≢◌, ◌⊎◌, List, [], ◌∷◌, ◌++◌, length, Some, None, bit_or}
+use Rattle.std.specs.Prelude.{◌≡◌, ℕ, Bool, true, false, ◌≢◌, ◌⊎◌, List, [], ◌∷◌, ◌++◌, length, Some, None, is_ok, bit_or}
 use Rattle.tables.specs.Flags.{meets, VarScope, TsConditional, FunctionExpression, ByValue}
 use Rattle.tables.specs.declared.row.ScopeRow.{ScopeRow}
 use Rattle.tables.specs.declared.row.SymbolRow.{SymbolRow}
@@ -8,15 +8,13 @@ use Rattle.tables.specs.declared.row.Conflict.{Conflict}
 use Rattle.model.specs.declared.call.Call.{Call}
 use Rattle.model.specs.declared.call.Call.TheVariants.{EnterScope, LeaveScope, Bind, DeclareReference, ResolveReferences, ResolveAllReferences}
 use Rattle.model.specs.declared.call.Declaration.{Declaration}
-use Rattle.model.specs.declared.call.Answer.{Answer}
-use Rattle.model.specs.declared.call.Answer.TheVariants.{Scope, Symbol, Reference, Counted, Refused}
 use Rattle.model.specs.declared.manner.Manner.TheVariants.{MovedOut}
 use Rattle.model.specs.Basics.{the_name, the_scope, the_symbol, the_node, symbol_flags}
 use Rattle.model.specs.Kinds.{TypeScript, manner}
 use Rattle.model.specs.State.{Names, Machine, fresh, symbol_row, flags_of}
 use Rattle.model.specs.Scopes.{parent_of, flags_in, is_var, is_strict}
 use Rattle.model.specs.Declaring.{Told, binding, hoisted}
-use Rattle.model.specs.Calls.{told, after, answer, run}
+use Rattle.model.specs.Calls.{Answer, told, after, answer, run}
 
 -- which symbol
 
@@ -141,11 +139,7 @@ pub record ToldApart (m : Machine) (d : Declaration) : Type 0 where
   pub stopped_or_made : (k t : ℕ) → d.kind ≡ Var → StoppedBy m.scopes m.names d.name.0 k m.current → MadeIn m d t → ⊥
 
 abbrev pub was_granted : Answer → Bool
-was_granted (Scope s) = true
-was_granted (Symbol s) = true
-was_granted (Reference r) = true
-was_granted (Counted c) = true
-was_granted (Refused r) = false
+was_granted = is_ok
 
 abbrev pub is_bind : Call → Bool
 is_bind (EnterScope s) = false

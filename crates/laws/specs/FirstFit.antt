@@ -1,5 +1,5 @@
 -- First fit: what becomes of each pending reference in a resolving call, by the tables at the call's entry.
-use Rattle.std.specs.Prelude.{◌≡◌, ℕ, true, false, List, [], ◌∷◌, ◌++◌, length, take, drop, Some, None, ◌≢◌}
+use Rattle.std.specs.Prelude.{◌≡◌, ℕ, true, false, List, [], ◌∷◌, ◌++◌, length, take, drop, Some, None, Err, ◌≢◌}
 use mathlib.Core.List.{Memᴰ}
 use Rattle.tables.specs.Flags.{meets, FunctionExpression}
 use Rattle.tables.specs.declared.refusal.Refusal.{Refusal}
@@ -13,7 +13,6 @@ use Rattle.model.specs.declared.call.Declaration.{Declaration}
 use Rattle.model.specs.declared.call.NewReference.{NewReference}
 use Rattle.model.specs.declared.call.Call.{Call}
 use Rattle.model.specs.declared.call.Call.TheVariants.{EnterScope, LeaveScope, Bind, DeclareReference, ResolveReferences, ResolveAllReferences}
-use Rattle.model.specs.declared.call.Answer.TheVariants.{Refused}
 use Rattle.model.specs.Basics.{the_reference, reference_flags}
 use Rattle.model.specs.State.{Machine, Uses, fresh, flags_of, use_flags, reference_row}
 use Rattle.model.specs.Scopes.{parent_of, is_plain_function}
@@ -27,7 +26,7 @@ abbrev pub ◌∈◌ : {X : Type 0} → X → List X → Type 0
 x ∈ xs = Memᴰ x xs
 
 abbrev pub Granted : Machine → Call → Type 0
-Granted m c = (r : Refusal) → answer m c ≢ Refused r
+Granted m c = (r : Refusal) → answer m c ≢ Err r
 
 -- the lookup chain of a pending entry
 
@@ -148,7 +147,7 @@ pub record FirstFitRight (m : Machine) : Type 0 where
   pub leave_scope : (after m LeaveScope).uses ≡ m.uses
   pub bind : (d : Declaration) → (after m (Bind d)).uses ≡ m.uses
   -- and a refused one touches nothing
-  pub refused : (c : Call) (r : Refusal) → answer m c ≡ Refused r → after m c ≡ m
+  pub refused : (c : Call) (r : Refusal) → answer m c ≡ Err r → after m c ≡ m
 
 abbrev pub FirstFit : Type 0
 FirstFit = (setting : ℕ) (cs : List Call) → FirstFitRight (run (fresh setting) cs)

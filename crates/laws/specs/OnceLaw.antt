@@ -1,6 +1,6 @@
 -- Once: each reference that was accepted is in exactly one list, once: the pending list, the resolved list of a symbol, or the root
 -- unresolved list of the name that its call gave.
-use Rattle.std.specs.Prelude.{◌≡◌, ℕ, zero, suc, ◌+◌, ◌<◌, ◌≤◌, Bool, true, false, cond, ◌⊎◌, List, [], ◌∷◌, ◌++◌, length, Some, None, filter, Option, ◌==◌, nat_eq, slice_index}
+use Rattle.std.specs.Prelude.{◌≡◌, ℕ, zero, suc, ◌+◌, ◌<◌, ◌≤◌, Bool, true, false, cond, ◌⊎◌, List, [], ◌∷◌, ◌++◌, length, Some, None, filter, Option, Ok, is_err, ◌==◌, nat_eq, slice_index}
 use Rattle.std.specs.List.{AllByRecursion}
 use Rattle.tables.specs.declared.row.UnresolvedReference.{UnresolvedReference}
 use Rattle.tables.specs.declared.row.ResolvedReference.{ResolvedReference}
@@ -9,21 +9,16 @@ use Rattle.tables.specs.declared.id.Name.{Name}
 use Rattle.stores.specs.Pairs.{Pairs}
 use Rattle.model.specs.declared.call.Call.{Call}
 use Rattle.model.specs.declared.call.Call.TheVariants.{EnterScope, LeaveScope, Bind, DeclareReference, ResolveReferences, ResolveAllReferences}
-use Rattle.model.specs.declared.call.Answer.{Answer}
-use Rattle.model.specs.declared.call.Answer.TheVariants.{Scope, Symbol, Reference, Counted, Refused}
+use Rattle.model.specs.declared.call.Granted.TheVariants.{Counted}
 use Rattle.model.specs.declared.call.Counts.{Counts}
 use Rattle.model.specs.Basics.{maybe, symbol_number, the_name}
 use Rattle.model.specs.State.{Machine, Names, Uses, fresh, reference_row, symbol_row}
-use Rattle.model.specs.Calls.{run, after, answer, answers}
+use Rattle.model.specs.Calls.{Answer, run, after, answer, answers}
 
 -- the accepted references
 
 abbrev pub is_refusal : Answer → Bool
-is_refusal (Scope s) = false
-is_refusal (Symbol s) = false
-is_refusal (Reference r) = false
-is_refusal (Counted k) = false
-is_refusal (Refused r) = true
+is_refusal = is_err
 
 abbrev pub name_given : Call → List ℕ
 name_given (EnterScope s) = []
@@ -142,7 +137,7 @@ is_resolving ResolveAllReferences = true
 -- the answer counts by how much the resolved lists and the root lists have grown, and what is pending
 pub record CountsGrowth (old new : Machine) (a : Answer) : Type 0 where
   pub counts : Counts
-  pub answered : a ≡ Counted counts
+  pub answered : a ≡ Ok (Counted counts)
   pub resolved : resolved_in_all new.names new.uses ≡ resolved_in_all old.names old.uses + counts.resolved
   pub root : listed_in_all new.uses ≡ listed_in_all old.uses + counts.root
   pub pending : length new.uses.pending ≡ counts.pending

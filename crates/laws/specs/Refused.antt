@@ -1,12 +1,11 @@
 -- When a call is refused, and why: exactly if the condition of that refusal holds, and that of no refusal before it in the call's table.
-use Rattle.std.specs.Prelude.{◌≡◌, ℕ, suc, ◌+◌, ◌<◌, ◌≤◌, Bool, true, false, ◌&&◌, ◌||◌, ◌≢◌, ◌⊎◌, ◌↔◌, List, [], ◌∷◌, length, Some, ◌==◌}
+use Rattle.std.specs.Prelude.{◌≡◌, ℕ, suc, ◌+◌, ◌<◌, ◌≤◌, Bool, true, false, ◌&&◌, ◌||◌, ◌≢◌, ◌⊎◌, ◌↔◌, List, [], ◌∷◌, length, Some, Err, ◌==◌}
 use Rattle.tables.specs.Flags.{StrictMode, Top, Function, Arrow, ClassStaticBlock, TsModuleBlock, Constructor, GetAccessor, SetAccessor, CatchClause, DirectEval, TsConditional, Read, Write, TypeUse, ValueAsType, NamespaceUse}
 use Rattle.tables.specs.declared.row.ScopeRow.{ScopeRow}
 use Rattle.tables.specs.declared.refusal.Refusal.{Refusal}
 use Rattle.tables.specs.declared.refusal.Refusal.TheVariants.{UnlistedBits, UnknownKind, ModifierNotOfKind, SpanReversed, NoSuchScope, ScopesFull, DeclarationsFull, ReferencesFull, AtRoot, StartPastPending}
 use Rattle.model.specs.declared.call.Call.{Call}
 use Rattle.model.specs.declared.call.Call.TheVariants.{EnterScope, LeaveScope, Bind, DeclareReference, ResolveReferences, ResolveAllReferences}
-use Rattle.model.specs.declared.call.Answer.TheVariants.{Refused}
 use Rattle.model.specs.Kinds.{Declare, Async, IfBody, Unique}
 use Rattle.model.specs.State.{Machine, fresh}
 use Rattle.model.specs.Scopes.{parent_of, flags_in}
@@ -114,11 +113,11 @@ NoneHolds [] = Unit {0}
 NoneHolds (row ∷ rows) = (¬ row.condition) × NoneHolds rows
 
 pub record RefusesExactly (m : Machine) (c : Call) : Type 0 where
-  pub refused : (r : Refusal) → answer m c ≡ Refused r ↔ FirstIs (table m c) r
+  pub refused : (r : Refusal) → answer m c ≡ Err r ↔ FirstIs (table m c) r
   -- a refused call changes nothing
   pub unchanged : (r : Refusal) → FirstIs (table m c) r → after m c ≡ m
   -- and one that no row refuses is granted
-  pub granted : ((r : Refusal) → answer m c ≢ Refused r) ↔ NoneHolds (table m c)
+  pub granted : ((r : Refusal) → answer m c ≢ Err r) ↔ NoneHolds (table m c)
 
 abbrev pub RefusedExactly : Type 0
 RefusedExactly = (setting : ℕ) (cs : List Call) (c : Call) → RefusesExactly (run (fresh setting) cs) c

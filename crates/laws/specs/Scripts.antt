@@ -1,6 +1,6 @@
 -- Eleven scripts in plain JavaScript, what each call answers, and all tables that they leave.
 -- Every declaration has a span and a node of its own, so that one cannot stand for another.
-use Rattle.std.specs.Prelude.{◌≡◌, ℕ, ◌+◌, cond, ◌&&◌, ◌≢◌, List, [], ◌∷◌, length, Some, None, Option, ◌==◌}
+use Rattle.std.specs.Prelude.{◌≡◌, ℕ, ◌+◌, cond, ◌&&◌, ◌≢◌, List, [], ◌∷◌, length, Some, None, Option, Ok, Err, ◌==◌}
 use Rattle.tables.specs.Flags.{Top, Function, Arrow, CatchClause, Read, TypeUse, FunctionScopedVariable, BlockScopedVariable, CatchVariable, FunctionSymbol, FunctionExpression, Interface}
 use Rattle.tables.specs.declared.id.Name.{Name}
 use Rattle.tables.specs.declared.row.ScopeRow.{ScopeRow}
@@ -16,11 +16,10 @@ use Rattle.stores.specs.Pairs.{Pairs}
 use Rattle.stores.specs.declared.key.ScopeAndName.{ScopeAndName}
 use Rattle.model.specs.declared.call.Call.{Call}
 use Rattle.model.specs.declared.call.Call.TheVariants.{EnterScope, LeaveScope, Bind, DeclareReference, ResolveReferences, ResolveAllReferences}
-use Rattle.model.specs.declared.call.Answer.{Answer}
-use Rattle.model.specs.declared.call.Answer.TheVariants.{Scope, Symbol, Reference, Counted, Refused}
+use Rattle.model.specs.declared.call.Granted.TheVariants.{Scope, Symbol, Reference, Counted}
 use Rattle.model.specs.Basics.{the_scope, the_symbol, the_reference, the_node, the_name, scope_flags, symbol_flags, reference_flags, place}
 use Rattle.model.specs.State.{Machine, fresh}
-use Rattle.model.specs.Calls.{run, answers}
+use Rattle.model.specs.Calls.{Answer, run, answers}
 use Rattle.laws.specs.KindNames.{var_kind, let_kind, function_expression_kind, catch_name_kind, interface_kind}
 
 -- calls and answers
@@ -42,17 +41,17 @@ abbrev pub refer : ℕ → ℕ → ℕ → ℕ → Call
 refer flags name scope node = DeclareReference (record { name = the_name name; scope = the_scope scope; flags = reference_flags flags; node = the_node node })
 
 abbrev pub scope : ℕ → Answer
-scope s = Scope (the_scope s)
+scope s = Ok (Scope (the_scope s))
 
 abbrev pub symbol : ℕ → Answer
-symbol s = Symbol (the_symbol s)
+symbol s = Ok (Symbol (the_symbol s))
 
 abbrev pub reference : ℕ → Answer
-reference r = Reference (the_reference r)
+reference r = Ok (Reference (the_reference r))
 
 -- resolved, root-listed, and pending afterwards
 abbrev pub counts : ℕ → ℕ → ℕ → Answer
-counts resolved root pending = Counted (record { resolved = resolved; root = root; pending = pending })
+counts resolved root pending = Ok (Counted (record { resolved = resolved; root = root; pending = pending }))
 
 -- rows
 
@@ -239,7 +238,7 @@ pub record ElevenScripts : Type 0 where
         root = [];
         pending = [];
       })
-  pub answers_2 : told script_2 ≡ scope 1 ∷ reference 0 ∷ symbol 0 ∷ scope 0 ∷ Refused AtRoot ∷ counts 1 0 0 ∷ []
+  pub answers_2 : told script_2 ≡ scope 1 ∷ reference 0 ∷ symbol 0 ∷ scope 0 ∷ Err AtRoot ∷ counts 1 0 0 ∷ []
   pub tables_2 : Leaves (final script_2)
       (record {
         current = 0;

@@ -1,4 +1,5 @@
-//! The laws over runs of the reference machine. Each theorem is the contract of a small function, so that the check asks for its proof.
+//! The laws over runs of the reference machine. The check asks for the proof of a theorem where a contract names it, so each is the contract of a
+//! function that does nothing: no plainer form names one.
 #![tactic(auto)]
 
 pub mod bindings;

@@ -3,4 +3,3 @@
 
 pub mod entry;
 pub mod list;
-mod place;

@@ -13,8 +13,9 @@ mod methods;
 #[derive(Drop)]
 pub struct ListStore<'a, K: Key> {
     entries: &'a mut [Entry<K>],
+    // A count beside the places and no `Vec`: the memory is lent, and no store takes any.
     count: usize,
     ghost enough: { least_capacity ≤ length entries.now },
     ghost within: { count ≤ length entries.now },
-    ghost different: { Apart entries.now count },
+    ghost different: { Apart K.eq entries.now count },
 }

@@ -1,1 +1,3 @@
+pub mod Ancestry
 pub mod Seeking
+pub mod NamesIn

@@ -1,17 +1,17 @@
 //! How a reference finds its symbol along its lookup chain.
 ghost use Rattle.std.specs.Prelude.{◌≡◌};
-ghost use Rattle.tables.specs.Contents.{contents};
-ghost use Rattle.stores.specs.Pairs.{no_pairs};
 ghost use Rattle.model.specs.Basics.{place, symbol_number};
 ghost use Rattle.model.specs.Scopes.{chain, is_below};
 ghost use Rattle.model.specs.Resolving.{can_resolve, resolved_flags, of_arguments, ends_at, serves, serving_in};
-ghost use Rattle.lookup.specs.Seeking.{bound_names, is_last, seek, first_binding};
+ghost use Rattle.lookup.specs.NamesIn.{names_in};
+ghost use Rattle.lookup.specs.Seeking.{seek, first_binding};
 
-use crate::chain::parent;
+use crate::ancestors::ancestors_from;
+use crate::name_tables::NameTables;
 use crate::sought::Sought;
 use stores::key::ScopeAndName;
 use stores::store::Store;
-use tables::flags::{ReferenceFlags, ScopeFlags, SymbolFlags};
+use tables::flags::{FlagSet, ReferenceFlags, ScopeFlags, SymbolFlags};
 use tables::id::{Name, ScopeId, SymbolId};
 use tables::scoping::Scoping;
 
@@ -55,17 +55,7 @@ pub fn resolved_flags(reference: ReferenceFlags, symbol: SymbolFlags) -> Referen
 pub fn is_of_arguments(name: Name, flags: ReferenceFlags) -> bool
     ensures { result ≡ of_arguments name.0 flags.0 }
 {
-    name.0 == Name::ARGUMENTS.0 && flags.intersects(ARGUMENTS_USES)
-}
-
-/// Whether the symbol serves the reference: the name of a function expression is no `arguments`.
-pub fn serves(scoping: &Scoping, name: Name, flags: ReferenceFlags, symbol: SymbolId) -> bool
-    ensures { result ≡ serves (bound_names (contents scoping.now).symbols no_pairs) name.0 flags.0 symbol.0 }
-{
-    let symbol_flags = scoping.symbol_or_empty(symbol).flags;
-    can_resolve(flags, symbol_flags)
-        && !(is_of_arguments(name, flags)
-            && symbol_flags.intersects(SymbolFlags::FUNCTION_EXPRESSION))
+    name == Name::ARGUMENTS && flags.intersects(ARGUMENTS_USES)
 }
 
 /// The symbol that the name is bound to in the scope.
@@ -76,35 +66,12 @@ pub fn binding_in<B: Store<ScopeAndName>>(
 ) -> Option<SymbolId>
     ensures { symbol_number result ≡ (B.PairSet.pairs bindings.now).get (place scope.0 name.0) }
 {
-    match bindings.get(ScopeAndName { scope, name }) {
-        Some(number) => Some(SymbolId(number)),
-        None => None,
-    }
-}
-
-/// The symbol that the name is bound to in the scope, if it serves.
-pub fn serving_in<B: Store<ScopeAndName>>(
-    scoping: &Scoping,
-    bindings: &B,
-    name: Name,
-    flags: ReferenceFlags,
-    scope: ScopeId,
-) -> Option<SymbolId>
-    ensures { symbol_number result ≡ serving_in (bound_names (contents scoping.now).symbols (B.PairSet.pairs bindings.now)) name.0 flags.0 scope.0 }
-{
-    let Some(symbol) = binding_in(bindings, scope, name) else {
-        return None;
-    };
-    if serves(scoping, name, flags, symbol) {
-        Some(symbol)
-    } else {
-        None
-    }
+    bindings.get(ScopeAndName { scope, name }).map(SymbolId)
 }
 
 /// Whether the lookup chain of the reference ends with the scope.
 pub fn ends_at(scoping: &Scoping, name: Name, flags: ReferenceFlags, scope: ScopeId) -> bool
-    ensures { result ≡ ends_at (contents scoping.now).scopes name.0 flags.0 scope.0 }
+    ensures { result ≡ ends_at scoping.now.scopes name.0 flags.0 scope.0 }
 {
     let scope_flags = scoping.scope_or_empty(scope).flags;
     is_of_arguments(name, flags)
@@ -112,78 +79,65 @@ pub fn ends_at(scoping: &Scoping, name: Name, flags: ReferenceFlags, scope: Scop
         && !scope_flags.intersects(ScopeFlags::ARROW)
 }
 
-/// Whether a search up to a scope, if one is given, looks no further than this scope.
-fn is_last(upto: Option<ScopeId>, scope: ScopeId) -> bool
-    ensures { result ≡ is_last upto scope.0 }
-{
-    match upto {
-        Some(last) => last.0 == scope.0,
-        None => false,
-    }
-}
-
-/// Searches the lookup chain of a reference from a scope on, up to another if one is given.
-pub fn search_chain<B: Store<ScopeAndName>>(
-    scoping: &Scoping,
-    bindings: &B,
-    name: Name,
-    flags: ReferenceFlags,
-    from: ScopeId,
-    upto: Option<ScopeId>,
-) -> Sought
-    ensures { result ≡ seek (contents scoping.now).scopes (bound_names (contents scoping.now).symbols (B.PairSet.pairs bindings.now)) name.0 flags.0 upto (chain (contents scoping.now).scopes from.0) }
-{
-    let mut at = from;
-    'climb: loop {
-        if let Some(symbol) = serving_in(scoping, bindings, name, flags, at) {
-            return Sought::Found(symbol);
-        }
-        if ends_at(scoping, name, flags, at) {
-            return Sought::Ended;
-        }
-        if is_last(upto, at) {
-            return Sought::Passed;
-        }
-        let Some(above) = parent(scoping, at) else {
-            return Sought::Passed;
-        };
-        at = above;
-    }
-}
-
-/// The first binding of the name in a scope or an ancestor, whatever its symbol.
-pub fn find_binding<B: Store<ScopeAndName>>(
-    scoping: &Scoping,
-    bindings: &B,
-    scope: ScopeId,
-    name: Name,
-) -> Option<SymbolId>
-    ensures { symbol_number result ≡ first_binding (B.PairSet.pairs bindings.now) name.0 (chain (contents scoping.now).scopes scope.0) }
-{
-    let mut at = scope;
-    'climb: loop {
-        if let Some(symbol) = binding_in(bindings, at, name) {
-            return Some(symbol);
-        }
-        let Some(above) = parent(scoping, at) else {
-            return None;
-        };
-        at = above;
-    }
-}
-
 /// Whether a scope is another or below it.
 pub fn scope_is_descendant_of(scoping: &Scoping, scope: ScopeId, here: ScopeId) -> bool
-    ensures { result ≡ is_below (contents scoping.now).scopes here.0 scope.0 }
+    ensures { result ≡ is_below scoping.now.scopes here.0 scope.0 }
 {
-    let mut at = scope;
-    'climb: loop {
-        if at.0 == here.0 {
-            return true;
+    ancestors_from(scoping, scope).any(|at| at == here)
+}
+
+impl<B: Store<ScopeAndName>, H: Store<ScopeAndName>> NameTables<B, H> {
+    /// Whether the symbol serves the reference: the name of a function expression is no `arguments`.
+    pub fn serves(&self, name: Name, flags: ReferenceFlags, symbol: SymbolId) -> bool
+        ensures { result ≡ serves (names_in B.PairSet.pairs H.PairSet.pairs self.now) name.0 flags.0 symbol.0 }
+    {
+        let symbol_flags = self.scoping.symbol_or_empty(symbol).flags;
+        can_resolve(flags, symbol_flags)
+            && !(is_of_arguments(name, flags)
+                && symbol_flags.intersects(SymbolFlags::FUNCTION_EXPRESSION))
+    }
+
+    /// The symbol that the name is bound to in the scope, if it serves.
+    pub fn serving_in(&self, name: Name, flags: ReferenceFlags, scope: ScopeId) -> Option<SymbolId>
+        ensures { symbol_number result ≡ serving_in (names_in B.PairSet.pairs H.PairSet.pairs self.now) name.0 flags.0 scope.0 }
+    {
+        let symbol = binding_in(&self.bindings, scope, name)?;
+        self.serves(name, flags, symbol).then_some(symbol)
+    }
+
+    /// Searches the lookup chain of a reference from a scope on, up to another if one is given.
+    pub fn search_chain(
+        &self,
+        name: Name,
+        flags: ReferenceFlags,
+        from: ScopeId,
+        upto: Option<ScopeId>,
+    ) -> Sought
+        ensures { result ≡ seek self.now.scoping.scopes (names_in B.PairSet.pairs H.PairSet.pairs self.now) name.0 flags.0 upto (chain self.now.scoping.scopes from.0) }
+    {
+        for at in ancestors_from(&self.scoping, from) {
+            if let Some(symbol) = self.serving_in(name, flags, at) {
+                return Sought::Found(symbol);
+            }
+            if ends_at(&self.scoping, name, flags, at) {
+                return Sought::Ended;
+            }
+            if upto == Some(at) {
+                return Sought::Passed;
+            }
         }
-        let Some(above) = parent(scoping, at) else {
-            return false;
-        };
-        at = above;
+        Sought::Passed
+    }
+
+    /// The first binding of the name in a scope or an ancestor, whatever its symbol.
+    pub fn find_binding(&self, scope: ScopeId, name: Name) -> Option<SymbolId>
+        ensures { symbol_number result ≡ first_binding (B.PairSet.pairs self.now.bindings) name.0 (chain self.now.scoping.scopes scope.0) }
+    {
+        for at in ancestors_from(&self.scoping, scope) {
+            if let Some(symbol) = binding_in(&self.bindings, at, name) {
+                return Some(symbol);
+            }
+        }
+        None
     }
 }

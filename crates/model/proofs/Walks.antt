@@ -1,29 +1,23 @@
 -- What a walk along a chain finds, one scope at a time.
-use Rattle.std.proofs.Common.{◌≡◌, ℕ, zero, suc, ◌≤◌, Bool, true, false, cond, List, [], ◌∷◌, length, Some, None, Option, ap, ◌∙◌, arith}
-use Rattle.std.proofs.lemmas.Bool.{cond_both}
+use Rattle.std.proofs.Common.{◌≡◌, ℕ, zero, suc, ◌≤◌, Bool, true, false, List, [], ◌∷◌, length, Some, None, Option, ◌∙◌, arith}
+use Rattle.std.proofs.lemmas.Bool.{cond_both, cond-true, cond-false}
 use Rattle.tables.specs.Trees.{Tree}
 use Rattle.tables.specs.declared.row.ScopeRow.{ScopeRow}
 use Rattle.model.specs.Basics.{maybe, first, before}
 use Rattle.model.specs.Scopes.{parent_of, is_var, climb, chain, target, passed}
 use Rattle.model.proofs.Chains.{at_chain, at_chain_more, at_chain_top}
 
-cond_true : {X : Type 0} (b : Bool) (x y : X) → b ≡ true → cond b x y ≡ x
-cond_true b x y e = ap (λ t. cond t x y) e
-
-cond_false : {X : Type 0} (b : Bool) (x y : X) → b ≡ false → cond b x y ≡ y
-cond_false b x y e = ap (λ t. cond t x y) e
-
 module _ (rows : List ScopeRow) (tree : Tree rows) where
   -- the first scope that passes a test
   module _ (test : ℕ → Bool) (other : ℕ) where
     pub first_here : (s : ℕ) → test s ≡ true → first test other (chain rows s) ≡ s
-    first_here s v = at_chain rows tree (first test other) s ∙ cond_true (test s) s _ v
+    first_here s v = at_chain rows tree (first test other) s ∙ cond-true (test s) s _ v
 
     pub first_up : (s p : ℕ) → test s ≡ false → parent_of rows s ≡ Some p → first test other (chain rows s) ≡ first test other (chain rows p)
-    first_up s p v e = at_chain_more rows tree (first test other) s p e ∙ cond_false (test s) s _ v
+    first_up s p v e = at_chain_more rows tree (first test other) s p e ∙ cond-false (test s) s _ v
 
     pub first_top : (s : ℕ) → test s ≡ false → parent_of rows s ≡ None → first test other (chain rows s) ≡ other
-    first_top s v e = at_chain_top rows tree (first test other) s e ∙ cond_false (test s) s other v
+    first_top s v e = at_chain_top rows tree (first test other) s e ∙ cond-false (test s) s other v
 
   pub target_here : (s : ℕ) → is_var rows s ≡ true → target rows s ≡ s
   unfolding target
@@ -39,26 +33,26 @@ module _ (rows : List ScopeRow) (tree : Tree rows) where
 
   pub passed_here : (s : ℕ) → is_var rows s ≡ true → passed rows s ≡ []
   unfolding passed
-  passed_here s v = at_chain rows tree (before (is_var rows)) s ∙ cond_true (is_var rows s) [] _ v
+  passed_here s v = at_chain rows tree (before (is_var rows)) s ∙ cond-true (is_var rows s) [] _ v
 
   pub passed_up : (s p : ℕ) → is_var rows s ≡ false → parent_of rows s ≡ Some p → passed rows s ≡ s ∷ passed rows p
   unfolding passed
-  passed_up s p v e = at_chain_more rows tree (before (is_var rows)) s p e ∙ cond_false (is_var rows s) [] _ v
+  passed_up s p v e = at_chain_more rows tree (before (is_var rows)) s p e ∙ cond-false (is_var rows s) [] _ v
 
   pub passed_top : (s : ℕ) → is_var rows s ≡ false → parent_of rows s ≡ None → passed rows s ≡ s ∷ []
   unfolding passed
-  passed_top s v e = at_chain_top rows tree (before (is_var rows)) s e ∙ cond_false (is_var rows s) [] _ v
+  passed_top s v e = at_chain_top rows tree (before (is_var rows)) s e ∙ cond-false (is_var rows s) [] _ v
 
   -- a scope that is no var scope is passed first
   pub passed_cons : (s : ℕ) → is_var rows s ≡ false → (ps : List ℕ) × (passed rows s ≡ s ∷ ps)
   unfolding passed
-  passed_cons s v = (before (is_var rows) (maybe (parent_of rows s) [] (chain rows)), at_chain rows tree (before (is_var rows)) s ∙ cond_false (is_var rows s) [] _ v)
+  passed_cons s v = (before (is_var rows) (maybe (parent_of rows s) [] (chain rows)), at_chain rows tree (before (is_var rows)) s ∙ cond-false (is_var rows s) [] _ v)
 
 before_short : (test : ℕ → Bool) (xs : List ℕ) → length (before test xs) ≤ length xs
 before_short test [] = omega arith
 before_short test (x ∷ xs) = let h = before_short test xs in cond_both (test x) [] (x ∷ before test xs) (λ ys. length ys ≤ length (x ∷ xs)) (λ _. omega arith) (λ _. omega arith)
 
-climb_short : (rows : List ScopeRow) (f s : ℕ) → length (climb rows f s) ≤ f
+pub climb_short : (rows : List ScopeRow) (f s : ℕ) → length (climb rows f s) ≤ f
 climb_short rows zero s = omega arith
 climb_short rows (suc f) s = let h = maybe_short (parent_of rows s) (climb rows f) f (λ p. climb_short rows f p) in omega arith
   where

@@ -1,5 +1,5 @@
 -- The calls: which are refused, what the others do and answer, and runs of calls.
-use Rattle.std.specs.Prelude.{ℕ, suc, ◌+◌, ◌-◌, Bool, true, cond, not, ◌&&◌, ◌||◌, List, [], ◌∷◌, ◌++◌, length, Some, None, Option, ◌==◌, bit_and, bit_or, nat_le, nat_lt, slice_set}
+use Rattle.std.specs.Prelude.{ℕ, suc, ◌+◌, ◌-◌, Bool, true, cond, not, ◌&&◌, ◌||◌, List, [], ◌∷◌, ◌++◌, length, Some, None, Option, Ok, Err, Result, ◌==◌, bit_and, bit_or, nat_le, nat_lt, slice_set}
 use Rattle.tables.specs.Flags.{meets, less, all_scope_flags, all_reference_flags, DirectEval, StrictMode}
 use Rattle.tables.specs.declared.row.ScopeRow.{ScopeRow}
 use Rattle.tables.specs.declared.refusal.Refusal.{Refusal}
@@ -11,14 +11,18 @@ use Rattle.model.specs.declared.call.Declaration.{Declaration}
 use Rattle.model.specs.declared.call.NewReference.{NewReference}
 use Rattle.model.specs.declared.call.Call.{Call}
 use Rattle.model.specs.declared.call.Call.TheVariants.{EnterScope, LeaveScope, Bind, DeclareReference, ResolveReferences, ResolveAllReferences}
-use Rattle.model.specs.declared.call.Answer.{Answer}
-use Rattle.model.specs.declared.call.Answer.TheVariants.{Scope, Symbol, Reference, Counted, Refused}
+use Rattle.model.specs.declared.call.Granted.{Granted}
+use Rattle.model.specs.declared.call.Granted.TheVariants.{Scope, Symbol, Reference, Counted}
 use Rattle.model.specs.Basics.{maybe, the_scope, the_symbol, the_reference, scope_flags}
 use Rattle.model.specs.Kinds.{TypeScript, kind_row, last_kind, includes, excludes, manner}
 use Rattle.model.specs.State.{Names, Uses, Machine, scope_row}
 use Rattle.model.specs.Scopes.{parent_of, flags_in, is_var, is_strict, chain, target, passed, conditional_scope, is_below}
 use Rattle.model.specs.Declaring.{Told, Declared, declare, add_symbol_redeclaration, unite, complain, found, declare_shadow_symbol, declare_symbol_on_scope, move_binding, scan, hoist_all, declare_var, declare_moved_out}
 use Rattle.model.specs.Resolving.{resolve_end, resolve_here, lookup_chain, search, settle, settle_all, fate_at_end, fate_here, has_ended}
+
+-- `model::call::Answer`
+abbrev pub Answer : Type 0
+Answer = Result Granted Refusal
 
 -- the first refusal whose condition holds
 
@@ -113,11 +117,11 @@ granted m (ResolveReferences start) = with_uses m (resolve_here m.scopes m.curre
 granted m ResolveAllReferences = with_uses m (resolve_end m.scopes m.names m.uses)
 
 -- how the lists have grown, and what is pending
-abbrev pub counted : Uses → Uses → Answer
+abbrev pub counted : Uses → Uses → Granted
 counted old new = Counted (record { resolved = length new.resolved - length old.resolved; root = length new.root - length old.root; pending = length new.pending })
 
 -- and its answer
-unfoldable pub granted_answer : Machine → Call → Answer
+unfoldable pub granted_answer : Machine → Call → Granted
 granted_answer m (EnterScope s) = Scope (the_scope (length m.scopes))
 granted_answer m LeaveScope = Scope (the_scope (parent_here m))
 granted_answer m (Bind d) = Symbol (the_symbol (bound m d).symbol)
@@ -130,7 +134,7 @@ unfoldable pub after : Machine → Call → Machine
 after m c = maybe (refusal m c) (granted m c) (λ n. m)
 
 unfoldable pub answer : Machine → Call → Answer
-answer m c = maybe (refusal m c) (granted_answer m c) Refused
+answer m c = maybe (refusal m c) (Ok (granted_answer m c)) Err
 
 -- the machine after a list of calls, and the answers
 abbrev pub run : Machine → List Call → Machine
@@ -160,7 +164,7 @@ unfoldable pub builder_after : Machine → Call → Machine
 builder_after m c = maybe (builder_refusal m c) (granted m c) (λ n. m)
 
 unfoldable pub builder_answer : Machine → Call → Answer
-builder_answer m c = maybe (builder_refusal m c) (granted_answer m c) Refused
+builder_answer m c = maybe (builder_refusal m c) (Ok (granted_answer m c)) Err
 
 -- every definition of the machine, for a proof that computes it
 unfoldable pub machine_opened : Unit {0}

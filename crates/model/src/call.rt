@@ -3,14 +3,14 @@ use tables::flags::{ReferenceFlags, ScopeFlags};
 use tables::id::{Name, NodeId, ReferenceId, ScopeId, SymbolId};
 use tables::refusal::Refusal;
 
-#[derive(Clone, Copy)]
+#[derive(Clone, Copy, PartialEq, Eq)]
 pub struct NewScope {
     pub flags: ScopeFlags,
     pub node: NodeId,
 }
 
-/// A declaration as the parser gives it: any numbers, to be checked.
-#[derive(Clone, Copy)]
+/// A declaration as the parser gives it: its kind, its modifiers and its span are numbers that the call has yet to check, and may refuse.
+#[derive(Clone, Copy, PartialEq, Eq)]
 pub struct Declaration {
     pub kind: u8,
     pub modifiers: u8,
@@ -20,7 +20,7 @@ pub struct Declaration {
     pub node: NodeId,
 }
 
-#[derive(Clone, Copy)]
+#[derive(Clone, Copy, PartialEq, Eq)]
 pub struct NewReference {
     pub name: Name,
     pub scope: ScopeId,
@@ -28,7 +28,7 @@ pub struct NewReference {
     pub node: NodeId,
 }
 
-#[derive(Clone, Copy)]
+#[derive(Clone, Copy, PartialEq, Eq)]
 pub enum Call {
     EnterScope(NewScope),
     LeaveScope,
@@ -40,19 +40,21 @@ pub enum Call {
 }
 
 /// What a resolving call did: how many references it resolved and root-listed, and how many are pending after it.
-#[derive(Clone, Copy)]
+#[derive(Clone, Copy, PartialEq, Eq)]
 pub struct Counts {
     pub resolved: u32,
     pub root: u32,
     pub pending: u32,
 }
 
-#[derive(Clone, Copy)]
-pub enum Answer {
+/// What a call that is granted answers.
+#[derive(Clone, Copy, PartialEq, Eq)]
+pub enum Granted {
     /// The scope that was entered, or the parent of the one that was left.
     Scope(ScopeId),
     Symbol(SymbolId),
     Reference(ReferenceId),
     Counted(Counts),
-    Refused(Refusal),
 }
+
+pub type Answer = Result<Granted, Refusal>;

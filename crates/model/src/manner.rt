@@ -1,6 +1,6 @@
 //! How a declaration finds its scope.
 
-#[derive(Clone, Copy)]
+#[derive(Clone, Copy, PartialEq, Eq)]
 pub enum Manner {
     /// Declared on the current scope.
     Here,

@@ -7,7 +7,8 @@ ghost use Rattle.tables.specs.declared.refusal.Refusal.TheVariants.{UnlistedBits
 use tables::refusal::Refusal;
 
 /// The setting of a builder, whose bits are listed.
-#[derive(Clone, Copy)]
+// Bits and no two bools: bits are what is given, and each is read by a name.
+#[derive(Clone, Copy, PartialEq, Eq)]
 pub struct Setting {
     bits: u8,
     ghost listed: { bits ≤ 3 },
@@ -20,17 +21,6 @@ impl Setting {
     pub const STRICT_ROOT: u8 = 1 << 1;
     /// All bits that are listed.
     pub const ALL: u8 = Self::TYPESCRIPT | Self::STRICT_ROOT;
-
-    /// The setting of these bits, unless some are not listed.
-    pub fn from_bits(bits: u8) -> Result<Setting, Refusal>
-        ensures { MatchResult result (λ s. (bits ≤ 3) × (s.bits ≡ bits)) (λ e. (3 < bits) × (e ≡ UnlistedBits)) }
-    {
-        if bits <= Self::ALL {
-            Ok(Setting { bits })
-        } else {
-            Err(Refusal::UnlistedBits)
-        }
-    }
 
     pub fn is_typescript(&self) -> bool
         ensures { result ≡ meets self.now.bits TypeScript }
@@ -48,5 +38,20 @@ impl Setting {
         ensures { result ≡ self.now.bits }
     {
         self.bits
+    }
+}
+
+/// The setting of these bits, unless some are not listed.
+impl TryFrom<u8> for Setting {
+    type Error = Refusal;
+
+    ghost try_from_gives = { λ bits r. MatchResult r (λ s. (bits ≤ 3) × (s.bits ≡ bits)) (λ e. (3 < bits) × (e ≡ UnlistedBits)) };
+
+    fn try_from(bits: u8) -> Result<Setting, Refusal> {
+        if bits <= Self::ALL {
+            Ok(Setting { bits })
+        } else {
+            Err(Refusal::UnlistedBits)
+        }
     }
 }

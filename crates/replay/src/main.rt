@@ -20,6 +20,28 @@ enum Outcome {
     Unreadable,
 }
 
+/// Memory was wanting, or a file or standard output failed: the program ends with status 1.
+#[derive(Drop)]
+struct Failure;
+
+impl From<io::Error> for Failure {
+    fn from(_error: io::Error) -> Failure {
+        Failure
+    }
+}
+
+impl From<NoMemory> for Failure {
+    fn from(_error: NoMemory) -> Failure {
+        Failure
+    }
+}
+
+impl From<AllocError> for Failure {
+    fn from(_error: AllocError) -> Failure {
+        Failure
+    }
+}
+
 /// The parts of a text that its dividers end.
 fn parts(heap: Global, text: &str) -> Result<Vec<String>, AllocError> {
     let mut all = Vec::new(heap);
@@ -37,13 +59,13 @@ fn parts(heap: Global, text: &str) -> Result<Vec<String>, AllocError> {
 }
 
 /// Runs a list over hashed stores and over list stores.
-fn replay(heap: Global, list: &str, expected: &str) -> Result<Outcome, NoMemory> {
+fn replay(heap: Global, list: &str, expected: &str) -> Result<Outcome, Failure> {
     let script = match parse(heap, list.as_bytes()) {
         Ok(script) => script,
         Err(ParseError::Line(_)) => return Ok(Outcome::Unreadable),
-        Err(ParseError::NoMemory) => return Err(NoMemory),
+        Err(ParseError::NoMemory) => return Err(Failure),
     };
-    let Ok(setting) = Setting::from_bits(script.setting.unwrap_or(0)) else {
+    let Ok(setting) = Setting::try_from(script.setting.unwrap_or(0)) else {
         return Ok(Outcome::Unreadable);
     };
     let calls = script.calls.as_slice();
@@ -56,48 +78,22 @@ fn replay(heap: Global, list: &str, expected: &str) -> Result<Outcome, NoMemory>
     }
 }
 
-/// What ends the program with status 1.
-#[derive(Drop)]
-enum Failure {
-    Io(io::Error),
-    NoMemory,
-}
-
-impl From<io::Error> for Failure {
-    fn from(error: io::Error) -> Failure {
-        Failure::Io(error)
-    }
-}
-
-impl From<NoMemory> for Failure {
-    fn from(_error: NoMemory) -> Failure {
-        Failure::NoMemory
-    }
-}
-
-impl From<AllocError> for Failure {
-    fn from(_error: AllocError) -> Failure {
-        Failure::NoMemory
-    }
-}
-
 fn run(rt: &HostRuntime) -> Result<(), Failure> {
     let lists = fs::read_to_string(rt, "lists.txt")?;
     let listings = fs::read_to_string(rt, "listings.txt")?;
     let lists = parts(rt.alloc(), lists.as_str())?;
     let listings = parts(rt.alloc(), listings.as_str())?;
     let mut same = 0usize;
-    let mut number = 0usize;
-    for (list, expected) in lists.iter().zip(listings.iter()) {
-        number = number.saturating_add(1);
+    for (number, (list, expected)) in (1usize..).zip(lists.iter().zip(listings.iter())) {
         match replay(rt.alloc(), list.as_str(), expected.as_str())? {
             Outcome::Same => same = same.saturating_add(1),
             Outcome::Differs => println!(rt; "list {number} differs")?,
             Outcome::Unreadable => println!(rt; "list {number} cannot be read")?,
         }
     }
+    let all = lists.len().min(listings.len());
     println!(rt;
-        "{same} of {number} lists came out as recorded, over hashed stores and over list stores"
+        "{same} of {all} lists came out as recorded, over hashed stores and over list stores"
     )?;
     Ok(())
 }

@@ -1,3 +1,2 @@
 mod Seeks
-mod Settlings
 pub mod Resolvings

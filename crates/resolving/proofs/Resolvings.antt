@@ -1,29 +1,21 @@
 -- What resolving does to the uses, entry by entry and in whole.
-use Rattle.std.proofs.Common.{◌≡◌, ℕ, suc, ◌+◌, ◌-◌, ◌<◌, ◌≤◌, Bool, true, false, cond, List, length, drop, is_some, Some, None, Option, sym, refl, ap, ◌∙◌, subst, arith}
+use Rattle.std.proofs.Common.{◌≡◌, ℕ, ◌+◌, ◌<◌, ◌≤◌, List, length, drop, Some, None, Option, sym, refl, ap, ◌∙◌, subst, arith}
 use Rattle.std.specs.List.{slice_get}
 use Rattle.std.proofs.lemmas.List.{length_push, length-set, length-take-le, drop_all, drop-set-lt}
 use Rattle.tables.proofs.Nths.{nth_below, drop_nth, nth_ahead, drop_ahead}
 use Rattle.tables.specs.declared.id.Name.{Name}
-use Rattle.tables.specs.declared.id.ScopeId.{ScopeId}
+use Rattle.tables.specs.declared.row.ScopeRow.{ScopeRow}
 use Rattle.tables.specs.declared.row.UnresolvedReference.{UnresolvedReference}
 use Rattle.tables.specs.Contents.{Contents}
-use Rattle.stores.specs.Pairs.{Pairs, put, no_pairs}
-use Rattle.stores.specs.Keys.{same_name}
+use Rattle.stores.specs.Pairs.{Pairs, no_pairs}
 use Rattle.stores.specs.declared.key.ScopeAndName.{ScopeAndName}
-use Rattle.model.specs.Basics.{maybe, the_name}
 use Rattle.model.specs.State.{Names, Uses}
-use Rattle.model.specs.Scopes.{parent_of}
-use Rattle.model.specs.Resolving.{Fate as ModelFate, resolve_to, list_at_root, stay, deferred, settle, settle_all, fate_here, resolve_here, resolve_end}
-use Rattle.model.specs.Calls.{counted}
-use Rattle.model.specs.declared.call.Answer.TheVariants.{Counted}
+use Rattle.model.specs.Resolving.{Fate as ModelFate, resolve_to, list_at_root, stay, deferred, settle, settle_all, fate_here, fate_at_end}
 use Rattle.model.specs.View.{names_of, uses_of, beside_uses}
-use Rattle.lookup.specs.Seeking.{bound_names}
-use Rattle.resolving.specs.Fates.{fate_meant, fate_in, fate_by, kept_by, pending_by, kept_uses, Settled}
+use Rattle.resolving.specs.Fates.{fate_meant, fate_in, kept_by, pending_by, kept_front, symbols_of, resolve_by, Settled}
 use Rattle.resolving.specs.declared.fate.Fate.{Fate}
 use Rattle.resolving.specs.declared.fate.Fate.TheVariants.{Resolve, ListAtRoot, Stay}
-use Rattle.resolving.specs.declared.fate.Stage.{Stage}
-use Rattle.resolving.specs.declared.fate.Stage.TheVariants.{EndOfScope, EndOfProgram}
-use Rattle.resolving.proofs.Seeks.{fate_said}
+use Rattle.resolving.specs.declared.fate.EndOfScope.{EndOfScope}
 
 -- how many entries there are in the three lists
 abbrev pub entries : Uses → ℕ
@@ -37,29 +29,11 @@ pub record Grown (us v : Uses) : Type 0 where
   pub root : length us.root ≤ length v.root
   pub size : v.roots.size ≤ us.roots.size + 1
 
-put_size : (b : Bool) (n : ℕ) → cond b n (suc n) ≤ n + 1
-put_size true n = omega arith
-put_size false n = omega arith
-
-list_size : (roots : Pairs Name) (name : ℕ) (o : Option ℕ) → (maybe o (put same_name roots (the_name name) roots.size) (λ n. roots)).size ≤ roots.size + 1
-list_size roots name None = put_size (is_some (roots.get (the_name name))) roots.size
-list_size roots name (Some n) = omega arith
-
 pub grown : (nm : Names) (us : Uses) (e : UnresolvedReference) (f : ModelFate) → Grown us (settle nm us e f)
 unfolding settle
-grown nm us e (resolve_to s) =
-    let r = length_push us.resolved (record { symbol = record { 0 = s }; reference = e.reference }) in
-    record { references = length-set us.references e.reference.0 _; total = omega arith; resolved = omega arith; root = omega arith; size = omega arith }
-grown nm us e list_at_root =
-    record {
-      references = refl;
-      total = simp length_push (omega arith);
-      resolved = omega arith;
-      root = simp length_push (omega arith);
-      size = list_size us.roots e.name.0 (us.roots.get (the_name e.name.0));
-    }
-grown nm us e (stay s) =
-    record { references = refl; total = simp length_push (omega arith); resolved = omega arith; root = omega arith; size = omega arith }
+grown nm us e (resolve_to s) = search (arith, length_push, length-set)
+grown nm us e list_at_root = search (arith, length_push, length-set)
+grown nm us e (stay s) = search (arith, length_push, length-set)
 
 -- how the pending list is overwritten
 
@@ -78,17 +52,33 @@ pending_drop (Resolve s) ps kept e k h = refl
 pending_drop ListAtRoot ps kept e k h = refl
 pending_drop (Stay s) ps kept e k h = drop-set-lt k ps kept (deferred e s.0) h
 
-module _ (stage : Stage) (bindings : Pairs ScopeAndName) (start : ℕ) (old : Contents) (roots : Pairs Name) where
-  -- the machine, with any hoisted variables
-  abbrev settled_from : Pairs ScopeAndName → Uses → List UnresolvedReference → Uses
-  settled_from h = settle_all (names_of old bindings h) (fate_in stage old.scopes (names_of old bindings h))
+-- settling reads only the symbols of the names
+settle_by_symbols : (nm mm : Names) (us : Uses) (e : UnresolvedReference) (f : ModelFate) → nm.symbols ≡ mm.symbols → settle nm us e f ≡ settle mm us e f
+unfolding settle
+settle_by_symbols nm mm us e (resolve_to s) q = cc
+settle_by_symbols nm mm us e list_at_root q = refl
+settle_by_symbols nm mm us e (stay s) q = refl
 
-  abbrev machine_fate : Pairs ScopeAndName → Uses → UnresolvedReference → ModelFate
-  machine_fate h = fate_in stage old.scopes (names_of old bindings h)
+-- and a fate only the references of the uses
+fate_by_references : (end : Option EndOfScope) (rows : List ScopeRow) (nm : Names) (us vs : Uses) (e : UnresolvedReference) → us.references ≡ vs.references →
+    fate_in end rows nm us e ≡ fate_in end rows nm vs e
+unfolding fate_here fate_at_end
+fate_by_references (Some end) rows nm us vs e q = cc
+fate_by_references None rows nm us vs e q = cc
+
+module _ (end : Option EndOfScope) (bindings hoisting : Pairs ScopeAndName) (start : ℕ) (old : Contents) (roots : Pairs Name) where
+  abbrev the_names : Contents → Names
+  the_names c = names_of c bindings hoisting
+
+  abbrev machine_fate : Uses → UnresolvedReference → ModelFate
+  machine_fate = fate_in end old.scopes (the_names old)
+
+  abbrev settled_from : Uses → List UnresolvedReference → Uses
+  settled_from = settle_all (the_names old) machine_fate
 
   -- the entries from `start` to `k` are settled, and `kept` entries stay
   pub record ResolvedTo (new : Contents) (lists : Pairs Name) (kept k : ℕ) : Type 0 where
-    pub same : (h : Pairs ScopeAndName) → settled_from h (kept_uses new lists kept) (drop k old.pending) ≡ settled_from h (kept_uses old roots start) (drop start old.pending)
+    pub same : settled_from (kept_front (uses_of new lists) kept) (drop k old.pending) ≡ resolve_by end old.scopes (the_names old) start (uses_of old roots)
     pub rest : beside_uses new ≡ beside_uses old
     pub ahead : drop k new.pending ≡ drop k old.pending
     pub long : length new.pending ≡ length old.pending
@@ -98,21 +88,19 @@ module _ (stage : Stage) (bindings : Pairs ScopeAndName) (start : ℕ) (old : Co
     pub root : length old.root ≤ length new.root
     pub size : lists.size + start ≤ roots.size + k
 
-  pub resolved_to_none : ResolvedTo old roots start start
-  resolved_to_none =
-      record { same = λ h. refl; rest = refl; ahead = refl; long = refl; high = omega arith; total = refl; resolved = omega arith; root = omega arith; size = omega arith }
-
-  pub resolved_to_more : (mid new : Contents) (lists next : Pairs Name) (kept m k : ℕ) (e : UnresolvedReference) (f : Fate) → ResolvedTo mid lists kept k →
-      slice_get mid.pending k ≡ Some e → f ≡ fate_by stage mid.scopes (bound_names mid.symbols bindings) mid.references e →
+  pub resolved_to_more : (mid new : Contents) (b h : Pairs ScopeAndName) (lists next : Pairs Name) (kept m k : ℕ) (e : UnresolvedReference) (f : Fate) → ResolvedTo mid lists kept k →
+      b ≡ bindings → h ≡ hoisting → slice_get mid.pending k ≡ Some e → fate_meant f ≡ fate_in end mid.scopes (names_of mid b h) (uses_of mid no_pairs) e →
       Settled mid lists new next e f kept m → ResolvedTo new next m (k + 1)
   unfolding settle_all
-  resolved_to_more mid new lists next kept m k e f i q a s =
-      let us = kept_uses mid lists kept in
-      let step : (h : Pairs ScopeAndName) → kept_uses new next m ≡ settle (names_of old bindings h) us e (machine_fate h us e) =
-      λ h. s.after bindings h ∙
-      ap (settle (names_of mid bindings h) us e) (ap fate_meant a ∙ fate_said stage mid.scopes (names_of mid bindings h) us e) ∙
-      ap (λ (x : Contents). settle (names_of x bindings h) us e (fate_in stage x.scopes (names_of x bindings h) us e)) i.rest in
-      let g : Grown us (kept_uses new next m) = subst (Grown us) (sym (step no_pairs)) (grown (names_of old bindings no_pairs) us e (machine_fate no_pairs us e)) in
+  resolved_to_more mid new b h lists next kept m k e f i qb qh q a s =
+      let us = kept_front (uses_of mid lists) kept in
+      let fate : fate_meant f ≡ machine_fate us e =
+      a ∙ ap (λ (x : Pairs ScopeAndName). fate_in end mid.scopes (names_of mid x h) (uses_of mid no_pairs) e) qb ∙
+      ap (λ (x : Pairs ScopeAndName). fate_in end mid.scopes (names_of mid bindings x) (uses_of mid no_pairs) e) qh ∙
+      fate_by_references end mid.scopes (the_names mid) (uses_of mid no_pairs) us e refl ∙ ap (λ (x : Contents). fate_in end x.scopes (the_names x) us e) i.rest in
+      let step : kept_front (uses_of new next) m ≡ settle (the_names old) us e (machine_fate us e) =
+      s.after ∙ ap (settle (symbols_of mid) us e) fate ∙ settle_by_symbols (symbols_of mid) (the_names old) us e (machine_fate us e) (ap (λ (x : Contents). x.symbols) i.rest) in
+      let g : Grown us (kept_front (uses_of new next) m) = subst (Grown us) (sym step) (grown (the_names old) us e (machine_fate us e)) in
       let d = drop_nth old.pending k e (sym (nth_ahead mid.pending old.pending k i.ahead) ∙ q) in
       let small = kept_small f kept in
       let there = nth_below mid.pending k e q in
@@ -122,7 +110,7 @@ module _ (stage : Stage) (bindings : Pairs ScopeAndName) (start : ℕ) (old : Co
       let before = length-take-le kept mid.pending (omega arith) in
       let after = length-take-le m new.pending (omega arith) in
       record {
-        same = λ h. ap (λ (u : Uses). settled_from h u (drop (k + 1) old.pending)) (step h) ∙ sym (ap (settled_from h us) d) ∙ i.same h;
+        same = ap (λ (u : Uses). settled_from u (drop (k + 1) old.pending)) step ∙ sym (ap (settled_from us) d) ∙ i.same;
         rest = s.rest ∙ i.rest;
         ahead = ap (drop (k + 1)) s.pending ∙ pending_drop f mid.pending kept e (k + 1) (omega arith) ∙ drop_ahead mid.pending old.pending k i.ahead;
         long = long ∙ i.long;
@@ -134,26 +122,6 @@ module _ (stage : Stage) (bindings : Pairs ScopeAndName) (start : ℕ) (old : Co
       }
 
   pub resolved_to_all : (new : Contents) (lists : Pairs Name) (kept k : ℕ) → ResolvedTo new lists kept k → length old.pending ≤ k →
-      (h : Pairs ScopeAndName) → kept_uses new lists kept ≡ settled_from h (kept_uses old roots start) (drop start old.pending)
+      kept_front (uses_of new lists) kept ≡ resolve_by end old.scopes (the_names old) start (uses_of old roots)
   unfolding settle_all
-  resolved_to_all new lists kept k i l h = sym (ap (settled_from h (kept_uses new lists kept)) (drop_all k old.pending l)) ∙ i.same h
-
-pub counted_so : (us v : Uses) (r r0 t t0 p : ℕ) → r ≡ length v.resolved → r0 ≡ length us.resolved → t ≡ length v.root → t0 ≡ length us.root → p ≡ length v.pending →
-    Counted (record { resolved = r - r0; root = t - t0; pending = p }) ≡ counted us v
-counted_so us v r r0 t t0 p a b d e f = cc
-
--- the two stages
-
-pub resolved_here : (old : Contents) (bindings h : Pairs ScopeAndName) (roots : Pairs Name) (here parent : ScopeId) (start : ℕ) (v : Uses) →
-    parent.0 ≡ maybe (parent_of old.scopes here.0) 0 (λ p. p) →
-    v ≡ settle_all (names_of old bindings h) (fate_in (EndOfScope here parent) old.scopes (names_of old bindings h)) (kept_uses old roots start) (drop start old.pending) →
-    v ≡ resolve_here old.scopes here.0 (names_of old bindings h) start (uses_of old roots)
-unfolding resolve_here
-resolved_here old bindings h roots here parent start v q e =
-    e ∙ ap (λ (p : ℕ). settle_all (names_of old bindings h) (fate_here old.scopes here.0 p (names_of old bindings h)) (kept_uses old roots start) (drop start old.pending)) q
-
-pub resolved_at_end : (old : Contents) (bindings h : Pairs ScopeAndName) (roots : Pairs Name) (v : Uses) →
-    v ≡ settle_all (names_of old bindings h) (fate_in EndOfProgram old.scopes (names_of old bindings h)) (kept_uses old roots 0) (drop 0 old.pending) →
-    v ≡ resolve_end old.scopes (names_of old bindings h) (uses_of old roots)
-unfolding resolve_end
-resolved_at_end old bindings h roots v e = e
+  resolved_to_all new lists kept k i l = sym (ap (settled_from (kept_front (uses_of new lists) kept)) (drop_all k old.pending l)) ∙ i.same

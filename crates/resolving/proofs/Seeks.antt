@@ -1,78 +1,77 @@
 -- The search along a lookup chain, and what it says in the reference machine's words.
-use Rattle.std.proofs.Common.{◌≡◌, ℕ, Bool, true, false, cond, eqb, List, [], ◌∷◌, Some, None, Option, refl, ap, ◌∙◌}
+use Rattle.std.proofs.Common.{◌≡◌, ℕ, Bool, true, false, cond, eqb, List, [], ◌∷◌, Some, None, Option, refl, arith, rules}
 use Rattle.tables.specs.declared.id.ScopeId.{ScopeId}
 use Rattle.tables.specs.declared.row.ScopeRow.{ScopeRow}
+use Rattle.tables.specs.declared.row.ReferenceRow.{ReferenceRow}
 use Rattle.tables.specs.declared.row.UnresolvedReference.{UnresolvedReference}
-use Rattle.model.specs.Basics.{maybe, until, any, the_symbol}
-use Rattle.model.specs.State.{Names, Uses, use_flags}
+use Rattle.model.specs.Basics.{maybe, until, any}
+use Rattle.model.specs.State.{Names, Uses, reference_row, use_flags}
 use Rattle.model.specs.Scopes.{chain, is_below}
-use Rattle.model.specs.Resolving.{serving_in, ends_at, search, lookup_chain, has_ended, fate_here, fate_at_end, Fate as ModelFate, resolve_to, list_at_root, stay}
-use Rattle.lookup.specs.Seeking.{bound_names, seek}
-use Rattle.resolving.specs.Fates.{fate_meant, fate_in, fate_by, sought_fate}
+use Rattle.model.specs.Resolving.{ends_at, search, lookup_chain, has_ended, fate_here, fate_at_end, Fate as ModelFate, resolve_to, list_at_root, stay}
+use Rattle.lookup.specs.Seeking.{seek}
 use Rattle.lookup.specs.declared.sought.Sought.{Sought}
 use Rattle.lookup.specs.declared.sought.Sought.TheVariants.{Found, Ended, Passed}
-use Rattle.resolving.specs.declared.fate.Fate.{Fate}
-use Rattle.resolving.specs.declared.fate.Fate.TheVariants.{Stay}
-use Rattle.resolving.specs.declared.fate.Stage.{Stage}
-use Rattle.resolving.specs.declared.fate.Stage.TheVariants.{EndOfScope, EndOfProgram}
+use Rattle.resolving.specs.Fates.{fate_in}
+use Rattle.resolving.specs.declared.fate.EndOfScope.{EndOfScope}
 
-cond_meant : (b : Bool) (f g : Fate) → fate_meant (cond b f g) ≡ cond b (fate_meant f) (fate_meant g)
-cond_meant true f g = refl
-cond_meant false f g = refl
+-- the fate that a search comes to
+abbrev pub sought_fate : Option EndOfScope → Sought → ModelFate
+sought_fate end (Found s) = resolve_to s.0
+sought_fate end Ended = list_at_root
+sought_fate (Some end) Passed = stay end.parent.0
+sought_fate None Passed = list_at_root
+
+-- how far the lookup chain is searched
+abbrev pub search_end : Option EndOfScope → Option ScopeId
+search_end (Some end) = Some end.scope
+search_end None = None
 
 module _ (rows : List ScopeRow) (nm : Names) (name flags : ℕ) where
   abbrev ends : ℕ → Bool
   ends = ends_at rows name flags
 
   abbrev seen : Option ScopeId → List ℕ → Sought
-  seen = seek rows (bound_names nm.symbols nm.bindings) name flags
+  seen = seek rows nm name flags
 
   -- up to a scope
 
-  module _ (here parent : ScopeId) where
+  module _ (end : EndOfScope) where
     abbrev fate_there : List ℕ → List ℕ → ModelFate
-    fate_there found passed = maybe (search nm name flags found) (cond (any ends passed) list_at_root (stay parent.0)) resolve_to
-
-    sought_step : (o : Option ℕ) (e l : Bool) (ps : List ℕ) →
-        fate_meant (sought_fate (EndOfScope here parent) (seen (Some here) ps)) ≡ fate_there (until (eqb here.0) (until ends ps)) (until (eqb here.0) ps) →
-        fate_meant (sought_fate (EndOfScope here parent) (maybe o (cond e Ended (cond l Passed (seen (Some here) ps))) (λ n. Found (the_symbol n)))) ≡
-        maybe (maybe o (search nm name flags (cond l [] (until (eqb here.0) (cond e [] (until ends ps))))) Some)
-        (cond (cond e true (any ends (cond l [] (until (eqb here.0) ps)))) list_at_root (stay parent.0)) resolve_to
-    unfolding search
-    sought_step (Some s) e l ps h = refl
-    sought_step None true true ps h = refl
-    sought_step None true false ps h = refl
-    sought_step None false true ps h = refl
-    sought_step None false false ps h = h
+    fate_there found passed = maybe (search nm name flags found) (cond (any ends passed) list_at_root (stay end.parent.0)) resolve_to
 
     sought_here : (ps : List ℕ) →
-        fate_meant (sought_fate (EndOfScope here parent) (seen (Some here) ps)) ≡ fate_there (until (eqb here.0) (until ends ps)) (until (eqb here.0) ps)
+        sought_fate (Some end) (seen (Some end.scope) ps) ≡ fate_there (until (eqb end.scope.0) (until ends ps)) (until (eqb end.scope.0) ps)
     unfolding search
     sought_here [] = refl
-    sought_here (p ∷ ps) = sought_step (serving_in nm name flags p) (ends p) (eqb here.0 p) ps (sought_here ps)
+    sought_here (p ∷ ps) = let h = sought_here ps in grind (arith, rules)
 
   -- to the end of the lookup chain
 
-  end_step : (o : Option ℕ) (e : Bool) (ps : List ℕ) →
-      fate_meant (sought_fate EndOfProgram (seen None ps)) ≡ maybe (search nm name flags (until ends ps)) list_at_root resolve_to →
-      fate_meant (sought_fate EndOfProgram (maybe o (cond e Ended (seen None ps)) (λ n. Found (the_symbol n)))) ≡
-      maybe (maybe o (search nm name flags (cond e [] (until ends ps))) Some) list_at_root resolve_to
-  unfolding search
-  end_step (Some s) e ps h = refl
-  end_step None true ps h = refl
-  end_step None false ps h = h
-
-  sought_at_end : (ps : List ℕ) → fate_meant (sought_fate EndOfProgram (seen None ps)) ≡ maybe (search nm name flags (until ends ps)) list_at_root resolve_to
+  sought_at_end : (ps : List ℕ) → sought_fate None (seen None ps) ≡ maybe (search nm name flags (until ends ps)) list_at_root resolve_to
   unfolding search
   sought_at_end [] = refl
-  sought_at_end (p ∷ ps) = end_step (serving_in nm name flags p) (ends p) ps (sought_at_end ps)
+  sought_at_end (p ∷ ps) = let h = sought_at_end ps in grind (arith, rules)
+
+-- entries from elsewhere stay as they are
+abbrev pub is_looked_up : Option EndOfScope → List ScopeRow → ℕ → Bool
+is_looked_up (Some end) rows s = is_below rows end.scope.0 s
+is_looked_up None rows s = true
 
 -- the fate that the search gives is the reference machine's
-pub fate_said : (stage : Stage) (rows : List ScopeRow) (nm : Names) (us : Uses) (e : UnresolvedReference) →
-    fate_meant (fate_by stage rows (bound_names nm.symbols nm.bindings) us.references e) ≡ fate_in stage rows nm us e
-unfolding fate_here fate_at_end has_ended lookup_chain
-fate_said (EndOfScope here parent) rows nm us e =
-    cond_meant (is_below rows here.0 e.scope.0) _ (Stay e.scope) ∙
-    ap (λ (f : ModelFate). cond (is_below rows here.0 e.scope.0) f (stay e.scope.0))
-    (sought_here rows nm e.name.0 (use_flags us e.reference.0) here parent (chain rows e.scope.0))
-fate_said EndOfProgram rows nm us e = sought_at_end rows nm e.name.0 (use_flags us e.reference.0) (chain rows e.scope.0)
+module _ (rows : List ScopeRow) (nm : Names) (us : Uses) (e : UnresolvedReference) where
+  fate_sought : (end : Option EndOfScope) → is_looked_up end rows e.scope.0 ≡ true →
+      sought_fate end (seek rows nm e.name.0 (use_flags us e.reference.0) (search_end end) (chain rows e.scope.0)) ≡ fate_in end rows nm us e
+  unfolding fate_here fate_at_end has_ended lookup_chain
+  fate_sought (Some end) h = rw h (sought_here rows nm e.name.0 (use_flags us e.reference.0) end (chain rows e.scope.0))
+  fate_sought None h = sought_at_end rows nm e.name.0 (use_flags us e.reference.0) (chain rows e.scope.0)
+
+  -- by the row, the end of the search and the search as the code reads them
+  pub fate_told : (end : Option EndOfScope) (row : ReferenceRow) (last : Option ScopeId) (s : Sought) →
+      is_looked_up end rows e.scope.0 ≡ true → row ≡ reference_row us e.reference.0 → last ≡ search_end end →
+      s ≡ seek rows nm e.name.0 row.flags.0 last (chain rows e.scope.0) → sought_fate end s ≡ fate_in end rows nm us e
+  fate_told end row last s up r l q = rw (q, r, l) (fate_sought end up)
+
+  pub fate_elsewhere : (end : Option EndOfScope) → is_looked_up end rows e.scope.0 ≡ false → stay e.scope.0 ≡ fate_in end rows nm us e
+  unfolding fate_here has_ended lookup_chain
+  fate_elsewhere (Some end) h = rw h refl
+  fate_elsewhere None h = let z : ◌≡◌ {A = ℕ} 0 1 = cc in absurd (omega arith)

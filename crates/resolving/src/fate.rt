@@ -1,7 +1,7 @@
 //! What becomes of a pending reference, and when that is decided.
 use tables::id::{ScopeId, SymbolId};
 
-#[derive(Clone, Copy)]
+#[derive(Clone, Copy, PartialEq, Eq)]
 pub enum Fate {
     Resolve(SymbolId),
     /// It goes to the root unresolved list of its name.
@@ -10,10 +10,9 @@ pub enum Fate {
     Stay(ScopeId),
 }
 
-/// References are resolved at the end of a scope and at the end of the program.
-#[derive(Clone, Copy)]
-pub enum Stage {
-    /// What the scope does not resolve is deferred to its parent.
-    EndOfScope { scope: ScopeId, parent: ScopeId },
-    EndOfProgram,
+/// The end of a scope, which defers to the parent what it does not resolve. At the end of the program there is none.
+#[derive(Clone, Copy, PartialEq, Eq)]
+pub struct EndOfScope {
+    pub scope: ScopeId,
+    pub parent: ScopeId,
 }

@@ -3,4 +3,4 @@
 
 pub mod fate;
 pub mod resolve;
-pub mod settle;
+mod settle;

@@ -1,111 +1,72 @@
 //! What becomes of one pending reference.
-ghost use Rattle.std.specs.Prelude.{◌≡◌, ◌<◌, length};
-ghost use Rattle.tables.specs.Contents.{contents};
-ghost use Rattle.tables.specs.Limits.{most_references};
-ghost use Rattle.stores.specs.Pairs.{Pairs, least_capacity};
-ghost use Rattle.model.specs.Resolving.{list_number, with_list, settle, resolve_to, list_at_root};
-ghost use Rattle.model.specs.View.{names_of, uses_of, beside_uses};
-ghost use Rattle.lookup.specs.Seeking.{bound_names};
-ghost use Rattle.resolving.specs.Fates.{fate_by, is_looked_up, search_end, sought_fate, Settled};
+#![tactic(auto, unfolding(model::specs::Resolving::settle))]
 
-use crate::fate::{Fate, Stage};
-use lookup::search::{resolved_flags, scope_is_descendant_of, search_chain};
+ghost use Rattle.std.specs.Prelude.{◌≡◌, ◌<◌, length};
+ghost use Rattle.tables.specs.Limits.{most_references};
+ghost use Rattle.stores.specs.Pairs.{least_capacity, no_pairs};
+ghost use Rattle.model.specs.Resolving.{list_number, with_list, settle, resolve_to, list_at_root};
+ghost use Rattle.model.specs.View.{uses_of, beside_uses};
+ghost use Rattle.lookup.specs.NamesIn.{names_in};
+ghost use Rattle.resolving.specs.Fates.{fate_meant, fate_in, symbols_of, HasRoomForOne, Settled};
+
+use crate::fate::{EndOfScope, Fate};
+use lookup::name_tables::NameTables;
+use lookup::search::{resolved_flags, scope_is_descendant_of};
 use lookup::sought::Sought;
 use stores::key::ScopeAndName;
 use stores::store::Store;
-use tables::id::{Name, ScopeId, SymbolId};
+use tables::id::{Name, SymbolId};
 use tables::row::{ReferenceRow, ResolvedReference, RootReference, UnresolvedReference};
 use tables::scoping::Scoping;
 
-fn search_end(stage: Stage) -> Option<ScopeId>
-    ensures { result ≡ search_end stage }
-{
-    match stage {
-        Stage::EndOfScope { scope, .. } => Some(scope),
-        Stage::EndOfProgram => None,
-    }
-}
-
-/// Whether an entry with this lookup scope is looked up: at the end of a scope, one from elsewhere is not.
-fn is_looked_up(scoping: &Scoping, stage: Stage, lookup: ScopeId) -> bool
-    ensures { result ≡ is_looked_up stage (contents scoping.now).scopes lookup.0 }
-{
-    match stage {
-        Stage::EndOfScope { scope, .. } => scope_is_descendant_of(scoping, lookup, scope),
-        Stage::EndOfProgram => true,
-    }
-}
-
-/// The fate of an entry by what a search came to.
-fn sought_fate(stage: Stage, sought: Sought) -> Fate
-    ensures { result ≡ sought_fate stage sought }
-{
-    match sought {
-        Sought::Found(symbol) => Fate::Resolve(symbol),
-        Sought::Ended => Fate::ListAtRoot,
-        Sought::Passed => match stage {
-            Stage::EndOfScope { parent, .. } => Fate::Stay(parent),
-            Stage::EndOfProgram => Fate::ListAtRoot,
-        },
-    }
-}
-
-/// What becomes of a pending entry.
-pub fn fate_of<B: Store<ScopeAndName>>(
-    scoping: &Scoping,
-    bindings: &B,
-    stage: Stage,
+/// What becomes of a pending entry. One from elsewhere is not looked up at the end of a scope.
+pub(crate) fn fate_of<B: Store<ScopeAndName>, H: Store<ScopeAndName>>(
+    names: &NameTables<B, H>,
+    end: Option<EndOfScope>,
     entry: UnresolvedReference,
 ) -> Fate
-    ensures { result ≡ fate_by stage (contents scoping.now).scopes (bound_names (contents scoping.now).symbols (B.PairSet.pairs bindings.now)) (contents scoping.now).references entry }
+    ensures { fate_meant result ≡ fate_in end names.now.scoping.scopes (names_in B.PairSet.pairs H.PairSet.pairs names.now) (uses_of names.now.scoping no_pairs) entry }
 {
-    if !is_looked_up(scoping, stage, entry.scope) {
+    if end.is_some_and(|end| !scope_is_descendant_of(&names.scoping, entry.scope, end.scope)) {
         return Fate::Stay(entry.scope);
     }
-    let flags = scoping.reference_or_empty(entry.reference).flags;
-    let sought = search_chain(
-        scoping,
-        bindings,
-        entry.name,
-        flags,
-        entry.scope,
-        search_end(stage),
-    );
-    sought_fate(stage, sought)
+    let flags = names.scoping.reference_or_empty(entry.reference).flags;
+    let last = end.map(|end| end.scope);
+    match names.search_chain(entry.name, flags, entry.scope, last) {
+        Sought::Found(symbol) => Fate::Resolve(symbol),
+        Sought::Ended => Fate::ListAtRoot,
+        Sought::Passed => end.map_or(Fate::ListAtRoot, |end| Fate::Stay(end.parent)),
+    }
 }
 
 /// The number of a name's root unresolved list: a new list has the next number.
-pub fn list_number<R: Store<Name>>(roots: &mut R, name: Name) -> u32
+fn list_number<R: Store<Name>>(roots: &mut R, name: Name) -> u32
     requires { (R.PairSet.pairs roots.old).size < least_capacity }
     ensures answer { result ≡ list_number (R.PairSet.pairs roots.old) name.0 }
     ensures after { R.PairSet.pairs roots.new ≡ with_list (R.PairSet.pairs roots.old) name.0 }
 {
-    match roots.get(name) {
-        Some(list) => list,
-        None => {
-            let list = roots.count() as u32;
-            match roots.insert(name, list) {
-                Ok(()) => list,
-                Err(_) => unreachable(),
-            }
-        }
+    if let Some(list) = roots.get(name) {
+        return list;
     }
+    let list = roots.count() as u32;
+    let _ = roots.insert(name, list);
+    list
 }
 
 /// Resolves a reference to a symbol.
-pub fn resolve_reference(scoping: &mut Scoping, entry: UnresolvedReference, symbol: SymbolId)
-    requires { length (contents scoping.old).resolved < most_references }
-    ensures after { (b h : Pairs ScopeAndName) (roots : Pairs Name) → uses_of (contents scoping.new) roots ≡ settle (names_of (contents scoping.old) b h) (uses_of (contents scoping.old) roots) entry (resolve_to symbol.0) }
-    ensures rest { beside_uses (contents scoping.new) ≡ beside_uses (contents scoping.old) }
+fn resolve_reference(scoping: &mut Scoping, entry: UnresolvedReference, symbol: SymbolId)
+    requires { length scoping.old.resolved < most_references }
+    ensures after { uses_of scoping.new no_pairs ≡ settle (symbols_of scoping.old) (uses_of scoping.old no_pairs) entry (resolve_to symbol.0) }
+    ensures rest { beside_uses scoping.new ≡ beside_uses scoping.old }
 {
     let row = scoping.reference_or_empty(entry.reference);
     let flags = resolved_flags(row.flags, scoping.symbol_or_empty(symbol).flags);
     let _ = scoping.set_reference(
         entry.reference,
         ReferenceRow {
-            node: row.node,
             flags,
             symbol: Some(symbol),
+            ..row
         },
     );
     let _ = scoping.add_resolved(ResolvedReference {
@@ -115,15 +76,11 @@ pub fn resolve_reference(scoping: &mut Scoping, entry: UnresolvedReference, symb
 }
 
 /// Puts a reference into the root unresolved list of its name.
-pub fn list_at_root<R: Store<Name>>(
-    scoping: &mut Scoping,
-    roots: &mut R,
-    entry: UnresolvedReference,
-)
-    requires room { length (contents scoping.old).root < most_references }
+fn list_at_root<R: Store<Name>>(scoping: &mut Scoping, roots: &mut R, entry: UnresolvedReference)
+    requires room { length scoping.old.root < most_references }
     requires places { (R.PairSet.pairs roots.old).size < least_capacity }
-    ensures after { (b h : Pairs ScopeAndName) → uses_of (contents scoping.new) (R.PairSet.pairs roots.new) ≡ settle (names_of (contents scoping.old) b h) (uses_of (contents scoping.old) (R.PairSet.pairs roots.old)) entry list_at_root }
-    ensures rest { beside_uses (contents scoping.new) ≡ beside_uses (contents scoping.old) }
+    ensures after { uses_of scoping.new (R.PairSet.pairs roots.new) ≡ settle (symbols_of scoping.old) (uses_of scoping.old (R.PairSet.pairs roots.old)) entry list_at_root }
+    ensures rest { beside_uses scoping.new ≡ beside_uses scoping.old }
 {
     let list = list_number(roots, entry.name);
     let _ = scoping.add_root(RootReference {
@@ -134,19 +91,18 @@ pub fn list_at_root<R: Store<Name>>(
 
 /// Resolves, lists or keeps an entry. One that is kept goes to the place `kept` of the pending list.
 /// Answers the place for the next one.
-pub fn settle_entry<R: Store<Name>>(
+pub(crate) fn settle_entry<R: Store<Name>>(
     scoping: &mut Scoping,
     roots: &mut R,
     entry: UnresolvedReference,
     fate: Fate,
     kept: usize,
 ) -> usize
-    requires there { kept < length (contents scoping.old).pending }
-    requires resolved { length (contents scoping.old).resolved < most_references }
-    requires root { length (contents scoping.old).root < most_references }
-    requires places { (R.PairSet.pairs roots.old).size < least_capacity }
-    ensures { Settled (contents scoping.old) (R.PairSet.pairs roots.old) (contents scoping.new) (R.PairSet.pairs roots.new) entry fate kept result }
+    requires there { kept < length scoping.old.pending }
+    requires room { HasRoomForOne (uses_of scoping.old (R.PairSet.pairs roots.old)) }
+    ensures { Settled scoping.old (R.PairSet.pairs roots.old) scoping.new (R.PairSet.pairs roots.new) entry fate kept result }
 {
+    // Three outcomes that are each acted on.
     match fate {
         Fate::Resolve(symbol) => {
             resolve_reference(scoping, entry, symbol);
@@ -157,14 +113,7 @@ pub fn settle_entry<R: Store<Name>>(
             kept
         }
         Fate::Stay(scope) => {
-            let _ = scoping.set_pending(
-                kept,
-                UnresolvedReference {
-                    name: entry.name,
-                    reference: entry.reference,
-                    scope,
-                },
-            );
+            let _ = scoping.set_pending(kept, UnresolvedReference { scope, ..entry });
             kept + 1
         }
     }

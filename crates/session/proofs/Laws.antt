@@ -1,11 +1,8 @@
 -- The laws of the reference machine, at a binder that does what it does.
 use Rattle.std.proofs.Common.{◌≡◌, ℕ, List, [], ◌∷◌, ◌++◌, length, take, sym, refl, ap, ◌∙◌, subst}
 use Rattle.model.specs.declared.call.Call.{Call}
-use Rattle.model.specs.declared.call.Answer.{Answer}
 use Rattle.model.specs.State.{Machine, fresh}
-use Rattle.model.specs.Declaring.{binding, hoisted}
-use Rattle.model.specs.Calls.{run, after, answer, answers, builder_after, builder_answer}
-use Rattle.laws.specs.OnceLaw.{resolved_list, root_list}
+use Rattle.model.specs.Calls.{Answer, run, after, answer, answers, builder_after, builder_answer}
 use Rattle.laws.proofs.EarlyRuns.{early_errors_law}
 use Rattle.laws.proofs.FirstFit.{first_fit}
 use Rattle.laws.proofs.GetIdentifierReference.{get_identifier_reference_law}
@@ -18,24 +15,24 @@ use Rattle.laws.proofs.Runs.{bindings_law}
 use Rattle.session.specs.Laws.{Equal, Lawful, KeepsLaws, Ran}
 use Rattle.session.proofs.Steps.{next_state, next_answer, next_answers}
 
-equal_from : (m n : Machine) → m ≡ n → Equal m n
-equal_from m n e =
+equal_self : (m : Machine) → Equal m m
+equal_self m =
     record {
-      setting = ap (λ (x : Machine). x.setting) e;
-      current_scope = ap (λ (x : Machine). x.current) e;
-      scope_rows = ap (λ (x : Machine). x.scopes) e;
-      symbol_rows = ap (λ (x : Machine). x.names.symbols) e;
-      reference_rows = ap (λ (x : Machine). x.uses.references) e;
-      bindings = λ scope name. ap (λ (x : Machine). binding x.names scope name) e;
-      binding_count = ap (λ (x : Machine). x.names.bindings.size) e;
-      hoisted_variables = λ scope name. ap (λ (x : Machine). hoisted x.names scope name) e;
-      hoisted_count = ap (λ (x : Machine). x.names.hoisting.size) e;
-      redeclarations = ap (λ (x : Machine). x.names.redeclarations) e;
-      conflicts = ap (λ (x : Machine). x.names.conflicts) e;
-      pending_list = ap (λ (x : Machine). x.uses.pending) e;
-      resolved_lists = λ symbol. ap (λ (x : Machine). resolved_list x.uses symbol) e;
-      root_unresolved_lists = λ name. ap (λ (x : Machine). root_list x.uses name) e;
-      root_unresolved_count = ap (λ (x : Machine). x.uses.roots.size) e;
+      setting = refl;
+      current_scope = refl;
+      scope_rows = refl;
+      symbol_rows = refl;
+      reference_rows = refl;
+      bindings = λ scope name. refl;
+      binding_count = refl;
+      hoisted_variables = λ scope name. refl;
+      hoisted_count = refl;
+      redeclarations = refl;
+      conflicts = refl;
+      pending_list = refl;
+      resolved_lists = λ symbol. refl;
+      root_unresolved_lists = λ name. refl;
+      root_unresolved_count = refl;
     }
 
 machine_lawful : (setting : ℕ) (cs : List Call) → Lawful setting cs (run (fresh setting) cs) (answers (fresh setting) cs)
@@ -43,7 +40,7 @@ machine_lawful setting cs =
     record {
       answered = refl;
       state = refl;
-      equal = equal_from (run (fresh setting) cs) (run (fresh setting) cs) refl;
+      equal = equal_self (run (fresh setting) cs);
       refuses = refused_exactly setting cs;
       once = once_law setting cs;
       counts = counts_law setting cs;

@@ -1,10 +1,9 @@
 -- A binder goes on as the reference machine does, one call after the other.
-use Rattle.std.proofs.Common.{◌≡◌, ℕ, ◌+◌, ◌<◌, ◌≤◌, List, [], ◌∷◌, ◌++◌, length, get_or, take, sym, ap, ◌∙◌}
-use Rattle.std.proofs.lemmas.List.{take_more, take_all}
+use Rattle.std.proofs.Common.{◌≡◌, ℕ, ◌+◌, ◌<◌, List, [], ◌∷◌, ◌++◌, length, get_or, take, sym, ap, ◌∙◌}
+use Rattle.std.proofs.lemmas.List.{take_more}
 use Rattle.model.specs.declared.call.Call.{Call}
-use Rattle.model.specs.declared.call.Answer.{Answer}
 use Rattle.model.specs.State.{Machine, fresh}
-use Rattle.model.specs.Calls.{run, answers, answer, builder_after, builder_answer}
+use Rattle.model.specs.Calls.{Answer, run, answers, answer, builder_after, builder_answer}
 use Rattle.laws.proofs.Limits.{never_full_law}
 use Rattle.laws.proofs.LongerRuns.{longer_law}
 
@@ -19,28 +18,10 @@ module _ (setting : ℕ) (cs : List Call) (c : Call) where
   pub next_answers : (m : Machine) (a : Answer) → m ≡ run (fresh setting) cs → a ≡ builder_answer m c → answers (fresh setting) cs ++ a ∷ [] ≡ answers (fresh setting) (cs ++ c ∷ [])
   next_answers m a e h = ap {B = List Answer} (λ x. answers (fresh setting) cs ++ x ∷ []) (next_answer m a e h) ∙ sym (longer_law (fresh setting) cs c).answered
 
--- the same for the calls of a list, from a binder that was just restarted
-module _ (setting : ℕ) (start : Machine) (restarted : start ≡ fresh setting) (cs : List Call) (i : ℕ) (d : Call) (lies : i < length cs) (m : Machine) (e : m ≡ run start (take i cs)) where
-  here : m ≡ run (fresh setting) (take i cs)
-  here = e ∙ ap (λ x. run x (take i cs)) restarted
+-- the next call of a list
+module _ (setting : ℕ) (cs : List Call) (i : ℕ) (d : Call) (lies : i < length cs) (m : Machine) (e : m ≡ run (fresh setting) (take i cs)) where
+  pub turn_state : (n : Machine) → n ≡ builder_after m (get_or cs i d) → n ≡ run (fresh setting) (take (i + 1) cs)
+  turn_state n h = next_state setting (take i cs) (get_or cs i d) m n e h ∙ sym (ap (run (fresh setting)) (take_more cs i d lies))
 
-  pub turn_state : (n : Machine) → n ≡ builder_after m (get_or cs i d) → n ≡ run start (take (i + 1) cs)
-  turn_state n h =
-      next_state setting (take i cs) (get_or cs i d) m n here h
-      ∙ sym (ap (run (fresh setting)) (take_more cs i d lies))
-      ∙ sym (ap (λ x. run x (take (i + 1) cs)) restarted)
-
-  pub turn_answers : (a : Answer) → a ≡ builder_answer m (get_or cs i d) → answers start (take i cs) ++ a ∷ [] ≡ answers start (take (i + 1) cs)
-  turn_answers a h =
-      ap {B = List Answer} (λ x. answers x (take i cs) ++ a ∷ []) restarted
-      ∙ next_answers setting (take i cs) (get_or cs i d) m a here h
-      ∙ sym (ap (answers (fresh setting)) (take_more cs i d lies))
-      ∙ sym (ap (λ x. answers x (take (i + 1) cs)) restarted)
-
--- all calls are made
-module _ (setting : ℕ) (start : Machine) (restarted : start ≡ fresh setting) (cs : List Call) (i : ℕ) (over : length cs ≤ i) where
-  pub end_state : (m : Machine) → m ≡ run start (take i cs) → m ≡ run (fresh setting) cs
-  end_state m e = e ∙ ap (run start) (take_all i cs over) ∙ ap (λ x. run x cs) restarted
-
-  pub end_answers : (given : List Answer) → given ≡ answers start (take i cs) → given ≡ answers (fresh setting) cs
-  end_answers given e = e ∙ ap (answers start) (take_all i cs over) ∙ ap (λ x. answers x cs) restarted
+  pub turn_answers : (a : Answer) → a ≡ builder_answer m (get_or cs i d) → answers (fresh setting) (take i cs) ++ a ∷ [] ≡ answers (fresh setting) (take (i + 1) cs)
+  turn_answers a h = next_answers setting (take i cs) (get_or cs i d) m a e h ∙ sym (ap (answers (fresh setting)) (take_more cs i d lies))

@@ -5,10 +5,9 @@ use Rattle.tables.specs.declared.row.UnresolvedReference.{UnresolvedReference}
 use Rattle.tables.specs.declared.row.ResolvedReference.{ResolvedReference}
 use Rattle.tables.specs.declared.row.RootReference.{RootReference}
 use Rattle.model.specs.declared.call.Call.{Call}
-use Rattle.model.specs.declared.call.Answer.{Answer}
 use Rattle.model.specs.State.{Machine, fresh}
 use Rattle.model.specs.Declaring.{binding, hoisted}
-use Rattle.model.specs.Calls.{run, after, answer, answers}
+use Rattle.model.specs.Calls.{Answer, run, after, answer, answers}
 use Rattle.laws.specs.BindingsLaw.{BindingsRight}
 use Rattle.laws.specs.Conflicts.{Writes}
 use Rattle.laws.specs.EarlyErrors.{declarations, OfFour, EarlyRight}

@@ -4,7 +4,7 @@ ghost use Rattle.model.specs.Calls.{builder_after, builder_answer};
 ghost use Rattle.session.specs.Laws.{KeepsLaws};
 
 use crate::binding::Binding;
-use model::call::{Answer, Call};
+use model::call::{Answer, Call, Granted};
 
 /// Makes one call, and gives its answer as a value.
 /// If the calls before it, from a fresh start, left the binder as they leave the reference machine, then so does this one, and the laws hold.
@@ -17,34 +17,21 @@ pub fn apply<T: Binding>(binder: &mut T, call: Call) -> Answer
 }
 
 /// The method of the call.
+// A match and no table of functions: each call has arguments and an answer of its own.
 fn dispatch<T: Binding>(binder: &mut T, call: Call) -> Answer
     ensures answer { result ≡ builder_answer (T.Binding.state binder.old) call }
     ensures after { T.Binding.state binder.new ≡ builder_after (T.Binding.state binder.old) call }
 {
-    match call {
-        Call::EnterScope(scope) => match binder.enter_scope(scope) {
-            Ok(id) => Answer::Scope(id),
-            Err(refusal) => Answer::Refused(refusal),
-        },
-        Call::LeaveScope => match binder.leave_scope() {
-            Ok(id) => Answer::Scope(id),
-            Err(refusal) => Answer::Refused(refusal),
-        },
-        Call::Bind(declaration) => match binder.bind(declaration) {
-            Ok(id) => Answer::Symbol(id),
-            Err(refusal) => Answer::Refused(refusal),
-        },
-        Call::DeclareReference(reference) => match binder.declare_reference(reference) {
-            Ok(id) => Answer::Reference(id),
-            Err(refusal) => Answer::Refused(refusal),
-        },
-        Call::ResolveReferences(start) => match binder.resolve_references_for_current_scope(start) {
-            Ok(counts) => Answer::Counted(counts),
-            Err(refusal) => Answer::Refused(refusal),
-        },
-        Call::ResolveAllReferences => match binder.resolve_all_references() {
-            Ok(counts) => Answer::Counted(counts),
-            Err(refusal) => Answer::Refused(refusal),
-        },
-    }
+    Ok(match call {
+        Call::EnterScope(scope) => Granted::Scope(binder.enter_scope(scope)?),
+        Call::LeaveScope => Granted::Scope(binder.leave_scope()?),
+        Call::Bind(declaration) => Granted::Symbol(binder.bind(declaration)?),
+        Call::DeclareReference(reference) => {
+            Granted::Reference(binder.declare_reference(reference)?)
+        }
+        Call::ResolveReferences(start) => {
+            Granted::Counted(binder.resolve_references_for_current_scope(start)?)
+        }
+        Call::ResolveAllReferences => Granted::Counted(binder.resolve_all_references()?),
+    })
 }

@@ -17,8 +17,8 @@ pub struct Answers {
 
 /// Inserts two keys into the cleared store, removes the second, and asks for both.
 pub fn exercise<K: Key, S: Store<K>>(store: &mut S, kept: K, removed: K) -> Result<Answers, Refusal>
-    ensures answer { result ≡ Ok (answers K.Key.same kept removed) }
-    ensures after { S.PairSet.pairs store.new ≡ exercised K.Key.same kept removed }
+    ensures answer { result ≡ Ok (answers K.eq kept removed) }
+    ensures after { S.PairSet.pairs store.new ≡ exercised K.eq kept removed }
     ensures places { S.PairSet.capacity store.new ≡ S.PairSet.capacity store.old }
 {
     store.clear();

@@ -11,16 +11,13 @@ pub struct Looks {
 }
 
 impl Looks {
+    // A constant and no `Default`: it is named where a sum begins.
     pub const NONE: Looks = Looks { total: 0, worst: 0 };
 
     fn with(self, reads: usize) -> Looks {
         Looks {
             total: self.total.saturating_add(reads),
-            worst: if reads > self.worst {
-                reads
-            } else {
-                self.worst
-            },
+            worst: self.worst.max(reads),
         }
     }
 }
@@ -31,52 +28,40 @@ fn reads(slots: &[Slot<ScopeAndName>], key: ScopeAndName) -> usize {
     if n == 0 {
         return 0;
     }
-    let hash = key.hash_number();
-    let home = hash as usize % n;
-    for step in 0..n {
-        let at = if step < n - home {
-            home + step
-        } else {
-            step - (n - home)
-        };
-        match slots[at] {
-            Slot::Empty => return step + 1,
-            Slot::Deleted => {}
-            Slot::Full { key: kept, .. } => {
-                if key.same_as(&kept) {
-                    return step + 1;
-                }
-            }
-        }
+    let home = key.hash_number() as usize % n;
+    slots[home..]
+        .iter()
+        .chain(&slots[..home])
+        .position(|slot| match *slot {
+            Slot::Empty => true,
+            Slot::Deleted => false,
+            Slot::Full { key: kept, .. } => key == kept,
+        })
+        .map_or(n, |step| step.saturating_add(1))
+}
+
+fn of_zone<F: Fn(u32) -> ScopeAndName>(slots: &[Slot<ScopeAndName>], key: F) -> Looks
+    requires { F.IsAlwaysCallable key }
+{
+    let mut looks = Looks::NONE;
+    for k in 0..BINDINGS {
+        looks = looks.with(reads(slots, key(k)));
     }
-    n
+    looks
 }
 
 pub fn of_bindings(slots: &[Slot<ScopeAndName>]) -> Looks {
-    let mut looks = Looks::NONE;
-    for k in 0..BINDINGS {
-        looks = looks.with(reads(slots, binding(k)));
-    }
-    looks
+    of_zone(slots, binding)
 }
 
 pub fn of_absent(slots: &[Slot<ScopeAndName>]) -> Looks {
-    let mut looks = Looks::NONE;
-    for k in 0..BINDINGS {
-        looks = looks.with(reads(slots, absent(k)));
-    }
-    looks
+    of_zone(slots, absent)
 }
 
 /// How many slots are neither empty nor full.
 pub fn deleted(slots: &[Slot<ScopeAndName>]) -> usize {
-    let mut count: usize = 0;
-    for i in 0..slots.len() {
-        match slots[i] {
-            Slot::Deleted => count = count.saturating_add(1),
-            Slot::Empty => {}
-            Slot::Full { .. } => {}
-        }
-    }
-    count
+    slots
+        .iter()
+        .filter(|slot| matches!(**slot, Slot::Deleted))
+        .count()
 }

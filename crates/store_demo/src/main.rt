@@ -3,14 +3,16 @@
 
 use crate::exercise::Answers;
 use crate::looks::{Looks, deleted, of_absent, of_bindings};
-use crate::over::{asked_list, asked_slots, in_list, in_slots};
+use crate::over::{asked, exercised};
 use crate::zone::{BINDINGS, binding, passing};
 use hash_store::hash::HashStore;
 use hash_store::slot::Slot;
 use list_store::entry::Entry;
+use list_store::list::ListStore;
 use std::io;
 use stores::key::ScopeAndName;
-use stores::store::Store;
+use stores::places::Places;
+use stores::store::{LEAST_CAPACITY, Store};
 use tables::id::{Name, ScopeId};
 use tables::refusal::Refusal;
 
@@ -19,7 +21,7 @@ mod looks;
 mod over;
 mod zone;
 
-const ENTRIES: usize = 512;
+const ENTRIES: usize = LEAST_CAPACITY;
 
 const TOO_FEW: usize = 511;
 
@@ -35,8 +37,7 @@ const STRIDE: u32 = 37;
 
 /// Binds the zone in a hashed store over the slots, and then unbinds and binds again for some rounds.
 fn bind_zone(slots: &mut [Slot<ScopeAndName>], rounds: u32) -> Result<(), Refusal> {
-    HashStore::check(slots)?;
-    let mut store = HashStore::new(slots);
+    let mut store = HashStore::new(Places::new(slots)?);
     for k in 0..BINDINGS {
         store.insert(binding(k), k)?;
     }
@@ -61,10 +62,7 @@ fn show_answers(rt: HostRuntime, what: &str, res: Result<Answers, Refusal>) -> i
                 (_, _) => println!(rt; "{what}: other answers"),
             }
         }
-        Err(refusal) => {
-            let number = refusal.number();
-            println!(rt; "{what}: refused {number}")
-        }
+        Err(refusal) => println!(rt; "{what}: refused {}", refusal.number()),
     }
 }
 
@@ -72,10 +70,7 @@ fn show_asked(rt: HostRuntime, what: &str, res: Result<Option<u32>, Refusal>) ->
     match res {
         Ok(Some(number)) => println!(rt; "{what}: {number}"),
         Ok(None) => println!(rt; "{what}: none"),
-        Err(refusal) => {
-            let number = refusal.number();
-            println!(rt; "{what}: refused {number}")
-        }
+        Err(refusal) => println!(rt; "{what}: refused {}", refusal.number()),
     }
 }
 
@@ -99,10 +94,7 @@ fn show_zone(rt: HostRuntime, slots: &mut [Slot<ScopeAndName>], rounds: u32) -> 
             show_looks(rt, "present", of_bindings(slots))?;
             show_looks(rt, "absent", of_absent(slots))
         }
-        Err(refusal) => {
-            let number = refusal.number();
-            println!(rt; "refused {number}")
-        }
+        Err(refusal) => println!(rt; "refused {}", refusal.number()),
     }
 }
 
@@ -119,7 +111,7 @@ fn main(rt: HostRuntime) -> io::Result<()> {
     show_answers(
         rt,
         "list store, scope and name",
-        in_list(&mut entries, a, b),
+        exercised(Places::new(&mut entries).map(ListStore::new), a, b),
     )?;
     let mut named = [Entry {
         key: Name(0),
@@ -128,27 +120,43 @@ fn main(rt: HostRuntime) -> io::Result<()> {
     show_answers(
         rt,
         "list store, name",
-        in_list(&mut named, Name(7), Name(8)),
+        exercised(
+            Places::new(&mut named).map(ListStore::new),
+            Name(7),
+            Name(8),
+        ),
     )?;
     let mut slots = [Slot::Empty; SLOTS];
     show_answers(
         rt,
         "hashed store, scope and name",
-        in_slots(&mut slots, a, b),
+        exercised(Places::new(&mut slots).map(HashStore::new), a, b),
     )?;
     let mut name_slots = [Slot::Empty; SLOTS];
     show_answers(
         rt,
         "hashed store, name",
-        in_slots(&mut name_slots, Name(7), Name(8)),
+        exercised(
+            Places::new(&mut name_slots).map(HashStore::new),
+            Name(7),
+            Name(8),
+        ),
     )?;
-    show_asked(rt, "list store, fresh", asked_list(&mut entries, a))?;
-    show_asked(rt, "hashed store, fresh", asked_slots(&mut slots, a))?;
+    show_asked(
+        rt,
+        "list store, fresh",
+        asked(Places::new(&mut entries).map(ListStore::new), a),
+    )?;
+    show_asked(
+        rt,
+        "hashed store, fresh",
+        asked(Places::new(&mut slots).map(HashStore::new), a),
+    )?;
     let mut few_slots = [Slot::Empty; TOO_FEW];
     show_asked(
         rt,
         "hashed store, too few slots",
-        asked_slots(&mut few_slots, a),
+        asked(Places::new(&mut few_slots).map(HashStore::new), a),
     )?;
     show_zone(rt, &mut slots, 0)?;
     show_zone(rt, &mut slots, ROUNDS)?;

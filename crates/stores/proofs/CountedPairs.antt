@@ -1,7 +1,7 @@
 -- The size of a set of pairs stays the number of its keys, for every sameness that is symmetric and transitive.
 use Rattle.std.proofs.Common.{◌≡◌, ℕ, suc, pred, Bool, true, false, cond, not, ◌||◌, List, [], ◌∷◌, length, is_some, Some, None, Option, sym, refl, ap, ◌∙◌, ap₂, inl, inr, arith}
 use Rattle.std.proofs.lemmas.Bool.{both_ways, cases_Bool, and_parts, and_from, not-true, not_from_false}
-use Rattle.stores.proofs.Bools.{same_bools, not_both}
+use Rattle.std.specs.Cmp.{IsEquivalence}
 use Rattle.stores.specs.Pairs.{Pairs, no_pairs, put, drop_pair}
 use Rattle.stores.specs.Counting.{among, different, Counted}
 
@@ -9,16 +9,13 @@ abbrev minus : {K : Type 0} → (K → K → Bool) → K → List K → List K
 minus e k [] = []
 minus e k (x ∷ xs) = cond (e k x) xs (x ∷ minus e k xs)
 
-module _ {K : Type 0} (e : K → K → Bool) (symmetric : (x y : K) → e x y ≡ true → e y x ≡ true) (transitive : (x y z : K) → e x y ≡ true → e y z ≡ true → e x z ≡ true) where
-  same_row : (q k x : K) → e q k ≡ true → e q x ≡ e k x
-  same_row q k x t = same_bools (e q x) (e k x) (λ h. transitive k q x (symmetric q k t) h) (λ h. transitive q k x t h)
+pub none_counted : {K : Type 0} (e : K → K → Bool) → Counted e no_pairs
+none_counted e = record { keys = []; apart = refl; total = refl; exactly = λ q. refl }
 
+module _ {K : Type 0} (e : K → K → Bool) (laws : IsEquivalence e) where
   same_among : (q k : K) (ks : List K) → e q k ≡ true → among e q ks ≡ among e k ks
   same_among q k [] t = refl
-  same_among q k (x ∷ xs) t = ap₂ ◌||◌ (same_row q k x t) (same_among q k xs t)
-
-  pub none_counted : Counted e no_pairs
-  none_counted = record { keys = []; apart = refl; total = refl; exactly = λ q. refl }
+  same_among q k (x ∷ xs) t = ap₂ ◌||◌ (laws.congr q k x t) (same_among q k xs t)
 
   pub put_counted : (p : Pairs K) (k : K) (n : ℕ) → Counted e p → Counted e (put e p k n)
   put_counted p k n t =
@@ -63,11 +60,11 @@ module _ {K : Type 0} (e : K → K → Bool) (symmetric : (x y : K) → e x y �
         | inl y ↦ ap (λ b. among e q (cond b xs (x ∷ minus e k xs))) y
             ∙ elim (cases_Bool (e q k)) [
               | inl t ↦ same_among q k xs t ∙ same_among k x xs y ∙ not-true (among e x xs) d'.0 ∙ sym (ap (λ b. cond b false (e q x || among e q xs)) t)
-              | inr f ↦ sym (ap (λ b. cond b false (e q x || among e q xs)) f ∙ ap (λ b. b || among e q xs) (not_both (e q x) (e q k) (λ h. transitive q x k h (symmetric k x y)) f))
+              | inr f ↦ sym (ap (λ b. cond b false (e q x || among e q xs)) f ∙ ap (λ b. b || among e q xs) (sym (laws.congr k x q y ∙ laws.symm x q) ∙ laws.symm k q ∙ f))
             ]
         | inr z ↦ ap (λ b. among e q (cond b xs (x ∷ minus e k xs))) z ∙ ap (λ b. e q x || b) (minus_among q k xs d'.1)
             ∙ elim (cases_Bool (e q k)) [
-              | inl t ↦ ap (λ b. e q x || cond b false (among e q xs)) t ∙ ap (λ b. b || false) (same_row q k x t ∙ z) ∙ sym (ap (λ b. cond b false (e q x || among e q xs)) t)
+              | inl t ↦ ap (λ b. e q x || cond b false (among e q xs)) t ∙ ap (λ b. b || false) (laws.congr q k x t ∙ z) ∙ sym (ap (λ b. cond b false (e q x || among e q xs)) t)
               | inr f ↦ ap (λ b. e q x || cond b false (among e q xs)) f ∙ sym (ap (λ b. cond b false (e q x || among e q xs)) f)
             ]
       ]

@@ -32,11 +32,11 @@ pub trait Store<K: Key>: PairSet<K> {
     /// Refused exactly if the key is new and no place is left.
     fn insert(&mut self, key: K, number: u32) -> Result<(), Refusal>
         ensures answer { result ≡ (if full (Self.PairSet.pairs self.old) (Self.PairSet.capacity self.old) key then Err StoreFull else Ok tt) }
-        ensures after { Self.PairSet.pairs self.new ≡ (if full (Self.PairSet.pairs self.old) (Self.PairSet.capacity self.old) key then Self.PairSet.pairs self.old else put K.Key.same (Self.PairSet.pairs self.old) key number) }
+        ensures after { Self.PairSet.pairs self.new ≡ (if full (Self.PairSet.pairs self.old) (Self.PairSet.capacity self.old) key then Self.PairSet.pairs self.old else put K.eq (Self.PairSet.pairs self.old) key number) }
         ensures places { Self.PairSet.capacity self.new ≡ Self.PairSet.capacity self.old };
 
     fn remove(&mut self, key: K)
-        ensures after { Self.PairSet.pairs self.new ≡ drop_pair K.Key.same (Self.PairSet.pairs self.old) key }
+        ensures after { Self.PairSet.pairs self.new ≡ drop_pair K.eq (Self.PairSet.pairs self.old) key }
         ensures places { Self.PairSet.capacity self.new ≡ Self.PairSet.capacity self.old };
 
     fn clear(&mut self)

@@ -1,14 +1,13 @@
 -- The scope rows stay a tree.
 use Rattle.std.proofs.Common.{◌≡◌, ℕ, ◌<◌, ◌≤◌, ◌≢◌, List, [], ◌∷◌, ◌++◌, length, set, Some, None, Option, sym, ap, ◌∙◌, ⊎_elim, arith, get_or-set_other, get_or-set_same}
-use lib.ListN.{get_or-append}
+use lib.ListN.{get_or-append, get_or-eq_default}
 use lib.Seq.{get_or-append_seam}
-use Rattle.std.proofs.lemmas.List.{length_push}
+use Rattle.std.proofs.lemmas.List.{length_push, set_past}
 use Rattle.std.proofs.lemmas.Bool.{cases_order, cases_eq, cases_lt}
 use Rattle.tables.specs.declared.row.ScopeRow.{ScopeRow}
 use Rattle.tables.specs.Ids.{scope_number}
 use Rattle.tables.specs.EmptyRows.{no_scope}
 use Rattle.tables.specs.Trees.{Tree, parent_at}
-use Rattle.tables.proofs.Nths.{get_or_past, set_past}
 
 pub tree_none : Tree []
 tree_none s p e = let z : ◌≡◌ {A = ℕ} 0 1 = cc in absurd (omega arith)
@@ -21,7 +20,7 @@ tree_push xs row t h s p e =
     (⊎_elim (λ (q : s < length xs). t s p (ap (λ (r : ScopeRow). scope_number r.parent) (sym (get_or-append xs (row ∷ []) no_scope s q)) ∙ e))
     (λ (q : length xs < s).
     let l = length_push xs row in
-    let n = get_or_past (xs ++ row ∷ []) s no_scope (omega arith) in
+    let n = get_or-eq_default (xs ++ row ∷ []) no_scope (omega arith) in
     let b : ◌≡◌ {A = Option ℕ} None (Some p) = sym (ap (λ (r : ScopeRow). scope_number r.parent) n) ∙ e in
     let z : ◌≡◌ {A = ℕ} 0 1 = cc in absurd (omega arith)))
     (cases_order s (length xs))

@@ -1,6 +1,6 @@
 -- What the tables hold, as lists of rows, and what each call makes of them.
-use Rattle.std.specs.Prelude.{ℕ, Bool, true, false, cond, ◌||◌, List, [], ◌∷◌, ◌++◌, length, Some, None, Ok, Err, Option, Result, ◌==◌, nat_lt, slice_index_or, slice_set}
-use Rattle.tables.specs.RowList.{rows}
+use Rattle.std.specs.Prelude.{ℕ, Bool, true, cond, List, [], ◌∷◌, ◌++◌, length, Some, None, Ok, Err, Option, Result, ◌==◌, nat_lt, slice_index_or, slice_set}
+use Rattle.std.specs.List.{list_any}
 use Rattle.tables.specs.declared.row.ScopeRow.{ScopeRow}
 use Rattle.tables.specs.declared.row.SymbolRow.{SymbolRow}
 use Rattle.tables.specs.declared.row.ReferenceRow.{ReferenceRow}
@@ -12,7 +12,6 @@ use Rattle.tables.specs.declared.row.Conflict.{Conflict}
 use Rattle.tables.specs.declared.refusal.Refusal.{Refusal}
 use Rattle.tables.specs.declared.refusal.Refusal.TheVariants.{Absent, NoSuchScope, ScopesFull, DeclarationsFull}
 use Rattle.tables.specs.declared.id.ScopeId.{ScopeId}
-use Rattle.tables.specs.declared.scoping.Scoping.{Scoping}
 use Rattle.tables.specs.declared.flags.ScopeFlags.{ScopeFlags}
 use Rattle.tables.specs.Ids.{the_scope}
 use Rattle.tables.specs.EmptyRows.{no_scope}
@@ -27,9 +26,6 @@ pub record Contents : Type 0 where
   pub root : List RootReference
   pub redeclarations : List Redeclaration
   pub conflicts : List Conflict
-
-abbrev pub contents : Scoping → Contents
-contents t = record { scopes = rows t.scopes; symbols = rows t.symbols; references = rows t.references; pending = rows t.pending; resolved = rows t.resolved; root = rows t.root; redeclarations = rows t.redeclarations; conflicts = rows t.conflicts }
 
 abbrev pub empty : Contents
 empty = record { scopes = []; symbols = []; references = []; pending = []; resolved = []; root = []; redeclarations = []; conflicts = [] }
@@ -90,8 +86,7 @@ declaration_answer c scopes hoisted = cond (no_room (length c.symbols) (length c
 
 -- the symbol was declared more than once
 abbrev pub has_redeclaration : ℕ → List Redeclaration → Bool
-has_redeclaration s [] = false
-has_redeclaration s (e ∷ es) = e.symbol.0 == s || has_redeclaration s es
+has_redeclaration s es = list_any (λ e. e.symbol.0 == s) es
 
 -- the rows with other flags in one
 abbrev pub flagged : List ScopeRow → ℕ → ScopeFlags → List ScopeRow

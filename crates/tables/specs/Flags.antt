@@ -131,6 +131,9 @@ TypeParameter = 32768
 abbrev pub Ambient : ℕ
 Ambient = 65536
 
+abbrev pub all_symbol_flags : ℕ
+all_symbol_flags = 131071
+
 -- what has a value
 abbrev pub Value : ℕ
 Value = FunctionScopedVariable + BlockScopedVariable + Class + FunctionSymbol + RegularEnum + ConstEnum + EnumMember

@@ -4,7 +4,6 @@ pub mod Spans
 pub mod Ids
 pub mod EmptyRows
 pub mod Limits
-pub mod RowList
 pub mod Trees
 pub mod Contents
 pub mod Picked

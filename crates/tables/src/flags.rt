@@ -1,6 +1,35 @@
 //! The flags of scopes, symbols and references, and the sets that are made of them.
-ghost use Rattle.std.specs.Prelude.{◌≡◌, bit_and, bit_or, nat_le};
-ghost use Rattle.tables.specs.Flags.{meets, less, all_scope_flags, all_reference_flags};
+ghost use Rattle.std.specs.Prelude.{◌≡◌, ℕ, bit_and, bit_or, nat_le};
+ghost use Rattle.tables.specs.Flags.{meets, less, all_scope_flags, all_symbol_flags, all_reference_flags};
+
+/// A set of flags of one kind, kept as bits.
+// What makes a set (union, intersection, difference) stands at each type: here it would have to narrow a wider number to the type's own width.
+pub trait FlagSet: Copy {
+    /// Its bits, as a number.
+    ghost number: { Self → ℕ };
+
+    /// The number of all flags that are listed.
+    ghost ALL_BITS: { ℕ };
+
+    const ALL_BITS: u32;
+
+    fn bits(self) -> u32
+        ensures { result ≡ number self };
+
+    /// Whether it has a flag of the set.
+    fn intersects(self, set: Self) -> bool
+        ensures { result ≡ meets (number self) (number set) }
+    {
+        self.bits() & set.bits() != 0
+    }
+
+    /// Whether all its bits are listed.
+    fn is_listed(self) -> bool
+        ensures { result ≡ nat_le (number self) ALL_BITS }
+    {
+        self.bits() <= Self::ALL_BITS
+    }
+}
 
 /// The flags of a scope.
 #[derive(Clone, Copy, PartialEq, Eq, Default)]
@@ -13,6 +42,42 @@ pub struct SymbolFlags(pub u32);
 /// The flags of a reference.
 #[derive(Clone, Copy, PartialEq, Eq, Default)]
 pub struct ReferenceFlags(pub u8);
+
+impl FlagSet for ScopeFlags {
+    ghost number = { λ x. x.0 };
+
+    ghost ALL_BITS = { all_scope_flags };
+
+    const ALL_BITS: u32 = Self::ALL.0 as u32;
+
+    fn bits(self) -> u32 {
+        u32::from(self.0)
+    }
+}
+
+impl FlagSet for SymbolFlags {
+    ghost number = { λ x. x.0 };
+
+    ghost ALL_BITS = { all_symbol_flags };
+
+    const ALL_BITS: u32 = Self::ALL.0;
+
+    fn bits(self) -> u32 {
+        self.0
+    }
+}
+
+impl FlagSet for ReferenceFlags {
+    ghost number = { λ x. x.0 };
+
+    ghost ALL_BITS = { all_reference_flags };
+
+    const ALL_BITS: u32 = Self::ALL.0 as u32;
+
+    fn bits(self) -> u32 {
+        u32::from(self.0)
+    }
+}
 
 impl ScopeFlags {
     pub const NONE: ScopeFlags = ScopeFlags(0);
@@ -47,13 +112,6 @@ impl ScopeFlags {
         Self::TOP.0 | Self::FUNCTION.0 | Self::CLASS_STATIC_BLOCK.0 | Self::TS_MODULE_BLOCK.0,
     );
 
-    /// Whether it has a flag of the set.
-    pub fn intersects(self, set: ScopeFlags) -> bool
-        ensures { result ≡ meets self.0 set.0 }
-    {
-        self.0 & set.0 != 0
-    }
-
     pub fn union(self, other: ScopeFlags) -> ScopeFlags
         ensures { result.0 ≡ bit_or self.0 other.0 }
     {
@@ -64,13 +122,6 @@ impl ScopeFlags {
         ensures { result.0 ≡ bit_and self.0 other.0 }
     {
         ScopeFlags(self.0 & other.0)
-    }
-
-    /// Whether all its bits are listed.
-    pub fn is_listed(self) -> bool
-        ensures { result ≡ nat_le self.0 all_scope_flags }
-    {
-        self.0 <= Self::ALL.0
     }
 }
 
@@ -110,6 +161,8 @@ impl SymbolFlags {
     pub const TYPE_PARAMETER: SymbolFlags = SymbolFlags(1 << 15);
 
     pub const AMBIENT: SymbolFlags = SymbolFlags(1 << 16);
+    /// All flags that are listed.
+    pub const ALL: SymbolFlags = SymbolFlags((1 << 17) - 1);
     /// What has a value.
     pub const VALUE: SymbolFlags = SymbolFlags(
         Self::FUNCTION_SCOPED_VARIABLE.0
@@ -145,21 +198,12 @@ impl SymbolFlags {
         Self::IMPORT.0 | Self::TYPE_IMPORT.0 | Self::REGULAR_ENUM.0 | Self::CONST_ENUM.0,
     );
 
-    /// Whether it has a flag of the set.
-    pub fn intersects(self, set: SymbolFlags) -> bool
-        ensures { result ≡ meets self.0 set.0 }
-    {
-        self.0 & set.0 != 0
-    }
-
     pub fn union(self, other: SymbolFlags) -> SymbolFlags
         ensures { result.0 ≡ bit_or self.0 other.0 }
     {
         SymbolFlags(self.0 | other.0)
     }
-}
 
-impl SymbolFlags {
     /// Its flags that the set lacks.
     pub fn difference(self, set: SymbolFlags) -> SymbolFlags
         ensures { result.0 ≡ less self.0 set.0 }
@@ -183,24 +227,10 @@ impl ReferenceFlags {
     /// A reference to a value reads or writes it.
     pub const VALUE: ReferenceFlags = ReferenceFlags(Self::READ.0 | Self::WRITE.0);
 
-    /// Whether it has a flag of the set.
-    pub fn intersects(self, set: ReferenceFlags) -> bool
-        ensures { result ≡ meets self.0 set.0 }
-    {
-        self.0 & set.0 != 0
-    }
-
     /// Its flags that the set lacks.
     pub fn difference(self, set: ReferenceFlags) -> ReferenceFlags
         ensures { result.0 ≡ less self.0 set.0 }
     {
         ReferenceFlags(self.0 - (self.0 & set.0))
-    }
-
-    /// Whether all its bits are listed.
-    pub fn is_listed(self) -> bool
-        ensures { result ≡ nat_le self.0 all_reference_flags }
-    {
-        self.0 <= Self::ALL.0
     }
 }

@@ -1,4 +1,5 @@
 //! What rows are named by. Each id is a type of its own, so that one cannot stand for another.
+// Five wrappers and no generic `Id<Of>`: its marker types and their derives would be longer than what they replace.
 
 /// The number of a scope, counted from the root, which is 0.
 #[derive(Clone, Copy, PartialEq, Eq, Default)]

@@ -4,7 +4,7 @@
 pub mod flags;
 pub mod id;
 pub mod limits;
-mod owned;
+pub mod owned;
 pub mod refusal;
 pub mod row;
 mod rows;

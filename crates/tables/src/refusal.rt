@@ -2,33 +2,33 @@
 ghost use Rattle.std.specs.Prelude.{◌≡◌};
 ghost use Rattle.tables.specs.Refusals.{number_of, layer_of};
 
-/// Why a call is refused. A refused call changes nothing.
+/// Why a call is refused, by its number. A refused call changes nothing.
 #[derive(Clone, Copy, PartialEq, Eq)]
 pub enum Refusal {
     /// Flag or setting bits that are not listed.
-    UnlistedBits,
+    UnlistedBits = 1,
     /// A kind of declaration that is not listed.
-    UnknownKind,
+    UnknownKind = 2,
     /// A modifier that this kind of declaration does not take.
-    ModifierNotOfKind,
+    ModifierNotOfKind = 3,
     /// A span that ends before it starts.
-    SpanReversed,
+    SpanReversed = 4,
     /// The scope of a reference is absent.
-    NoSuchScope,
+    NoSuchScope = 5,
     /// All scopes are taken.
-    ScopesFull,
+    ScopesFull = 6,
     /// Too few symbols, redeclarations, conflicts or hoisted variables are left for the declaration.
-    DeclarationsFull,
+    DeclarationsFull = 7,
     /// All references are taken.
-    ReferencesFull,
+    ReferencesFull = 8,
     /// The root cannot be left, and nothing can be deferred from it.
-    AtRoot,
+    AtRoot = 9,
     /// The start lies behind the end of the pending list.
-    StartPastPending,
+    StartPastPending = 10,
     /// The id or entry that is read is absent.
-    Absent,
+    Absent = 11,
     /// A store holds its capacity, or was given too few places.
-    StoreFull,
+    StoreFull = 12,
 }
 
 /// The part that refuses.
@@ -43,20 +43,7 @@ impl Refusal {
     pub fn number(self) -> u8
         ensures { result ≡ number_of self }
     {
-        match self {
-            Refusal::UnlistedBits => 1,
-            Refusal::UnknownKind => 2,
-            Refusal::ModifierNotOfKind => 3,
-            Refusal::SpanReversed => 4,
-            Refusal::NoSuchScope => 5,
-            Refusal::ScopesFull => 6,
-            Refusal::DeclarationsFull => 7,
-            Refusal::ReferencesFull => 8,
-            Refusal::AtRoot => 9,
-            Refusal::StartPastPending => 10,
-            Refusal::Absent => 11,
-            Refusal::StoreFull => 12,
-        }
+        self as u8
     }
 
     pub fn layer(self) -> Layer

@@ -1,4 +1,6 @@
-//! The rows of the tables. Spans lie in them as two plain numbers.
+//! The rows of the tables.
+// A span lies in a row as two plain numbers: so the machine's definitions can write a row with no proof that a declaration's span is ordered.
+// Rows name rows by id: their memory is fixed and taken once.
 use crate::flags::{ReferenceFlags, ScopeFlags, SymbolFlags};
 use crate::id::{Name, NodeId, ReferenceId, ScopeId, SymbolId};
 

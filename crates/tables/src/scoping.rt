@@ -1,5 +1,5 @@
 //! All the rows of a binding, with their memory taken once.
-ghost use Rattle.tables.specs.RowList.{rows};
+ghost use Rattle.tables.specs.Contents.{Contents};
 ghost use Rattle.tables.specs.Trees.{Tree};
 
 use crate::limits::{
@@ -10,12 +10,13 @@ use crate::row::{
     UnresolvedReference,
 };
 use crate::rows::Rows;
+use std::marker::Model;
 
-mod lists;
 mod reads;
 mod writes;
 
 /// The rows of scopes, symbols and references, and the lists of a binding.
+// The lists of all owners lie in one table each: their memory is fixed and taken once.
 #[derive(Drop)]
 pub struct Scoping {
     scopes: Rows<ScopeRow, MOST_SCOPES>,
@@ -26,5 +27,12 @@ pub struct Scoping {
     root: Rows<RootReference, MOST_REFERENCES>,
     redeclarations: Rows<Redeclaration, MOST_REDECLARATIONS>,
     conflicts: Rows<Conflict, MOST_CONFLICTS>,
-    ghost tree: { Tree (rows scopes) },
+}
+
+impl Model for Scoping {
+    ghost Value = { Contents };
+
+    ghost view = { λ t. record { scopes = t.scopes; symbols = t.symbols; references = t.references; pending = t.pending; resolved = t.resolved; root = t.root; redeclarations = t.redeclarations; conflicts = t.conflicts } };
+
+    ghost invariant = { λ t. Tree t.scopes };
 }

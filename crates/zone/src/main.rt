@@ -1,7 +1,6 @@
 //! The program `zone`: reads an operation list, runs it, and lists the answers and the tables.
 #![tactic(auto)]
 
-use model::call::Answer;
 use model::setting::Setting;
 use std::io::Read;
 use std::process::ExitCode;
@@ -11,50 +10,74 @@ use zone_report::no_memory::NoMemory;
 use zone_report::{report_hashed, report_listed};
 use zone_text::script::{ParseError, Script, parse};
 
-/// What ends the program with status 1, once standard error says why.
+/// What ends the program with status 1.
 #[derive(Drop)]
 enum Failure {
-    /// Something could not be read or written.
-    Io(io::Error),
-    NoMemory,
-    /// It is said already.
-    Said,
+    Usage,
+    /// The list could not be read.
+    Unread(io::Error),
+    Unparsed(ParseError),
+    /// No memory for the arguments or the report, or an output that could not be written: nothing is said of it.
+    Silent,
+}
+
+impl From<ParseError> for Failure {
+    fn from(error: ParseError) -> Failure {
+        Failure::Unparsed(error)
+    }
 }
 
 impl From<io::Error> for Failure {
-    fn from(error: io::Error) -> Failure {
-        Failure::Io(error)
+    fn from(_error: io::Error) -> Failure {
+        Failure::Silent
     }
 }
 
 impl From<NoMemory> for Failure {
     fn from(_error: NoMemory) -> Failure {
-        Failure::NoMemory
+        Failure::Silent
     }
+}
+
+impl Failure {
+    /// Says why the program ends.
+    fn say(&self, rt: &HostRuntime) -> io::Result<()> {
+        match self {
+            Failure::Usage => eprintln!(rt; "zone: usage: zone [--list-stores] [FILE]"),
+            Failure::Unread(error) => eprintln!(rt; "zone: {error}"),
+            Failure::Unparsed(error) => eprintln!(rt; "zone: {error}"),
+            Failure::Silent => Ok(()),
+        }
+    }
+}
+
+/// The kinds of stores that a list is run over.
+#[derive(Clone, Copy)]
+enum Stores {
+    Hashed,
+    Listed,
 }
 
 #[derive(Drop)]
 struct Options {
-    /// Run over list stores in place of hashed ones.
-    list_stores: bool,
+    stores: Stores,
     /// Standard input if there is none.
     file: Option<String>,
 }
 
 fn read_options(rt: &HostRuntime) -> Result<Options, Failure> {
-    let mut list_stores = false;
+    let mut stores = Stores::Hashed;
     let mut file = None;
     for word in env::args(rt)?.skip(1) {
         if word.as_str() == "--list-stores" {
-            list_stores = true;
+            stores = Stores::Listed;
         } else if file.is_none() {
             file = Some(word);
         } else {
-            eprintln!(rt; "zone: usage: zone [--list-stores] [FILE]")?;
-            return Err(Failure::Said);
+            return Err(Failure::Usage);
         }
     }
-    Ok(Options { list_stores, file })
+    Ok(Options { stores, file })
 }
 
 fn read_text(rt: &HostRuntime, file: &Option<String>) -> io::Result<Vec<u8>> {
@@ -69,20 +92,19 @@ fn read_text(rt: &HostRuntime, file: &Option<String>) -> io::Result<Vec<u8>> {
 }
 
 /// Runs the list under its setting, if that is granted.
-fn list(rt: &HostRuntime, script: &Script, list_stores: bool) -> Result<(), Failure> {
-    match Setting::from_bits(script.setting.unwrap_or(0)) {
+fn list(rt: &HostRuntime, script: &Script, stores: Stores) -> Result<(), Failure> {
+    match Setting::try_from(script.setting.unwrap_or(0)) {
         Ok(setting) => {
             let calls = script.calls.as_slice();
-            let report = if list_stores {
-                report_listed(rt.alloc(), setting, calls)?
-            } else {
-                report_hashed(rt.alloc(), setting, calls)?
+            let report = match stores {
+                Stores::Hashed => report_hashed(rt.alloc(), setting, calls)?,
+                Stores::Listed => report_listed(rt.alloc(), setting, calls)?,
             };
             print!(rt; "{report}")?;
             Ok(())
         }
         Err(refusal) => {
-            let line = AnswerLine(Answer::Refused(refusal));
+            let line = AnswerLine(Err(refusal));
             println!(rt; "{line}")?;
             Ok(())
         }
@@ -91,30 +113,19 @@ fn list(rt: &HostRuntime, script: &Script, list_stores: bool) -> Result<(), Fail
 
 fn run(rt: &HostRuntime) -> Result<(), Failure> {
     let options = read_options(rt)?;
-    let text = match read_text(rt, &options.file) {
-        Ok(text) => text,
-        Err(error) => {
-            eprintln!(rt; "zone: {error}")?;
-            return Err(Failure::Said);
-        }
-    };
-    match parse(rt.alloc(), text.as_slice()) {
-        Ok(script) => list(rt, &script, options.list_stores),
-        Err(ParseError::Line(bad)) => {
-            eprintln!(rt; "zone: {bad}")?;
-            Err(Failure::Said)
-        }
-        Err(ParseError::NoMemory) => {
-            eprintln!(rt; "zone: out of memory")?;
-            Err(Failure::Said)
-        }
-    }
+    let text = read_text(rt, &options.file).map_err(Failure::Unread)?;
+    let script = parse(rt.alloc(), text.as_slice())?;
+    list(rt, &script, options.stores)
 }
 
 // No result is returned, since an error in it would be printed once more.
 fn main(rt: HostRuntime) -> ExitCode {
     match run(&rt) {
         Ok(()) => ExitCode::SUCCESS,
-        Err(_) => ExitCode::FAILURE,
+        Err(failure) => {
+            // The status says it also where standard error cannot be written.
+            let _ = failure.say(&rt);
+            ExitCode::FAILURE
+        }
     }
 }

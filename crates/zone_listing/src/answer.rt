@@ -2,7 +2,7 @@
 ghost use Rattle.std.specs.Prelude.{Some};
 ghost use Rattle.zone_listing.specs.Listing.{answer_line};
 
-use model::call::Answer;
+use model::call::{Answer, Granted};
 use std::fmt;
 
 /// The answer of a call, as a line.
@@ -14,19 +14,15 @@ impl fmt::Display for AnswerLine {
 
     fn fmt<W: fmt::Write>(&self, f: &mut fmt::Formatter<W>) -> fmt::Result {
         match self.0 {
-            Answer::Scope(id) => write!(f, "scope {}", id.0),
-            Answer::Symbol(id) => write!(f, "symbol {}", id.0),
-            Answer::Reference(id) => write!(f, "reference {}", id.0),
-            Answer::Counted(counts) => {
-                let resolved = counts.resolved;
-                let root = counts.root;
-                let pending = counts.pending;
-                write!(
-                    f,
-                    "counts resolved {resolved} root {root} pending {pending}"
-                )
-            }
-            Answer::Refused(refusal) => write!(f, "refused {}", refusal.number()),
+            Ok(Granted::Scope(id)) => write!(f, "scope {}", id.0),
+            Ok(Granted::Symbol(id)) => write!(f, "symbol {}", id.0),
+            Ok(Granted::Reference(id)) => write!(f, "reference {}", id.0),
+            Ok(Granted::Counted(counts)) => write!(
+                f,
+                "counts resolved {} root {} pending {}",
+                counts.resolved, counts.root, counts.pending
+            ),
+            Err(refusal) => write!(f, "refused {}", refusal.number()),
         }
     }
 }

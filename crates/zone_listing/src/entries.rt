@@ -1,5 +1,5 @@
 //! The lines of bindings and of lists. An index counts from 0.
-ghost use Rattle.std.specs.Prelude.{◌≡◌, Some};
+ghost use Rattle.std.specs.Prelude.{Some};
 ghost use Rattle.zone_listing.specs.Listing.{table_word, pair_line, redeclaration_line, conflict_line, pending_line, resolved_line, root_line};
 
 use std::fmt;
@@ -21,30 +21,11 @@ pub struct PairLine {
     pub symbol: SymbolId,
 }
 
-/// `index` counts the entries of the symbol.
+/// An entry of a list, with its index in the list: for redeclarations and resolved references, the list of the symbol.
 #[derive(Clone, Copy)]
-pub struct RedeclarationLine {
+pub struct EntryLine<T> {
     pub index: usize,
-    pub entry: Redeclaration,
-}
-
-#[derive(Clone, Copy)]
-pub struct ConflictLine {
-    pub index: usize,
-    pub entry: Conflict,
-}
-
-#[derive(Clone, Copy)]
-pub struct PendingLine {
-    pub index: usize,
-    pub entry: UnresolvedReference,
-}
-
-/// `index` counts the entries of the symbol.
-#[derive(Clone, Copy)]
-pub struct ResolvedLine {
-    pub index: usize,
-    pub entry: ResolvedReference,
+    pub entry: T,
 }
 
 /// `index` counts the entries of the name.
@@ -55,14 +36,13 @@ pub struct RootLine {
     pub reference: ReferenceId,
 }
 
-impl PairTable {
-    /// The first word of its lines.
-    fn word(self) -> &'static str
-        ensures { result.now ≡ table_word self }
-    {
+impl fmt::Display for PairTable {
+    ghost output = { λ x. Some (table_word x) };
+
+    fn fmt<W: fmt::Write>(&self, f: &mut fmt::Formatter<W>) -> fmt::Result {
         match self {
-            PairTable::Bindings => "binding",
-            PairTable::Hoisting => "hoisting",
+            PairTable::Bindings => write!(f, "binding"),
+            PairTable::Hoisting => write!(f, "hoisting"),
         }
     }
 }
@@ -71,16 +51,15 @@ impl fmt::Display for PairLine {
     ghost output = { λ x. Some (pair_line x) };
 
     fn fmt<W: fmt::Write>(&self, f: &mut fmt::Formatter<W>) -> fmt::Result {
-        let word = self.table.word();
         write!(
             f,
-            "{word} {} {} {}",
-            self.key.scope.0, self.key.name.0, self.symbol.0
+            "{} {} {} {}",
+            self.table, self.key.scope.0, self.key.name.0, self.symbol.0
         )
     }
 }
 
-impl fmt::Display for RedeclarationLine {
+impl fmt::Display for EntryLine<Redeclaration> {
     ghost output = { λ x. Some (redeclaration_line x) };
 
     fn fmt<W: fmt::Write>(&self, f: &mut fmt::Formatter<W>) -> fmt::Result {
@@ -93,7 +72,7 @@ impl fmt::Display for RedeclarationLine {
     }
 }
 
-impl fmt::Display for ConflictLine {
+impl fmt::Display for EntryLine<Conflict> {
     ghost output = { λ x. Some (conflict_line x) };
 
     fn fmt<W: fmt::Write>(&self, f: &mut fmt::Formatter<W>) -> fmt::Result {
@@ -111,7 +90,7 @@ impl fmt::Display for ConflictLine {
     }
 }
 
-impl fmt::Display for PendingLine {
+impl fmt::Display for EntryLine<UnresolvedReference> {
     ghost output = { λ x. Some (pending_line x) };
 
     fn fmt<W: fmt::Write>(&self, f: &mut fmt::Formatter<W>) -> fmt::Result {
@@ -124,7 +103,7 @@ impl fmt::Display for PendingLine {
     }
 }
 
-impl fmt::Display for ResolvedLine {
+impl fmt::Display for EntryLine<ResolvedReference> {
     ghost output = { λ x. Some (resolved_line x) };
 
     fn fmt<W: fmt::Write>(&self, f: &mut fmt::Formatter<W>) -> fmt::Result {

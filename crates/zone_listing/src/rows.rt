@@ -1,4 +1,5 @@
 //! The lines of scopes, symbols and references.
+// Ids and flags are printed as their numbers: a `Display` for each of eight types would be longer.
 ghost use Rattle.std.specs.Prelude.{Some};
 ghost use Rattle.zone_listing.specs.Listing.{number_or_dash, current_line, scope_line, symbol_line, reference_line};
 
@@ -25,22 +26,11 @@ impl fmt::Display for NumberOrDash {
 #[derive(Clone, Copy)]
 pub struct CurrentLine(pub ScopeId);
 
+/// A row of a table, with its id.
 #[derive(Clone, Copy)]
-pub struct ScopeLine {
-    pub scope: ScopeId,
-    pub row: ScopeRow,
-}
-
-#[derive(Clone, Copy)]
-pub struct SymbolLine {
-    pub symbol: SymbolId,
-    pub row: SymbolRow,
-}
-
-#[derive(Clone, Copy)]
-pub struct ReferenceLine {
-    pub reference: ReferenceId,
-    pub row: ReferenceRow,
+pub struct RowLine<I, R> {
+    pub id: I,
+    pub row: R,
 }
 
 impl fmt::Display for CurrentLine {
@@ -51,24 +41,21 @@ impl fmt::Display for CurrentLine {
     }
 }
 
-impl fmt::Display for ScopeLine {
+impl fmt::Display for RowLine<ScopeId, ScopeRow> {
     ghost output = { λ x. Some (scope_line x) };
 
     fn fmt<W: fmt::Write>(&self, f: &mut fmt::Formatter<W>) -> fmt::Result {
         let row = self.row;
-        let parent = match row.parent {
-            Some(parent) => NumberOrDash(Some(parent.0)),
-            None => NumberOrDash(None),
-        };
+        let parent = NumberOrDash(row.parent.map(|parent| parent.0));
         write!(
             f,
             "scope {} parent {} node {} flags {}",
-            self.scope.0, parent, row.node.0, row.flags.0
+            self.id.0, parent, row.node.0, row.flags.0
         )
     }
 }
 
-impl fmt::Display for SymbolLine {
+impl fmt::Display for RowLine<SymbolId, SymbolRow> {
     ghost output = { λ x. Some (symbol_line x) };
 
     fn fmt<W: fmt::Write>(&self, f: &mut fmt::Formatter<W>) -> fmt::Result {
@@ -76,24 +63,21 @@ impl fmt::Display for SymbolLine {
         write!(
             f,
             "symbol {} name {} start {} end {} flags {} scope {} node {}",
-            self.symbol.0, row.name.0, row.start, row.end, row.flags.0, row.scope.0, row.node.0
+            self.id.0, row.name.0, row.start, row.end, row.flags.0, row.scope.0, row.node.0
         )
     }
 }
 
-impl fmt::Display for ReferenceLine {
+impl fmt::Display for RowLine<ReferenceId, ReferenceRow> {
     ghost output = { λ x. Some (reference_line x) };
 
     fn fmt<W: fmt::Write>(&self, f: &mut fmt::Formatter<W>) -> fmt::Result {
         let row = self.row;
-        let symbol = match row.symbol {
-            Some(symbol) => NumberOrDash(Some(symbol.0)),
-            None => NumberOrDash(None),
-        };
+        let symbol = NumberOrDash(row.symbol.map(|symbol| symbol.0));
         write!(
             f,
             "reference {} node {} flags {} symbol {}",
-            self.reference.0, row.node.0, row.flags.0, symbol
+            self.id.0, row.node.0, row.flags.0, symbol
         )
     }
 }

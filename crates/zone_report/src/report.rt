@@ -29,14 +29,6 @@ pub fn report<B: Store<ScopeAndName> + Drop, H: Store<ScopeAndName> + Drop, R: S
         let line = AnswerLine(*answer);
         writeln!(out, "{line}")?;
     }
-    write_tables(
-        &mut out,
-        builder.current_scope(),
-        builder.scoping(),
-        builder.bindings(),
-        builder.hoisting(),
-        builder.roots(),
-        calls,
-    )?;
+    write_tables(&mut out, &builder, calls)?;
     Ok(out)
 }

@@ -5,12 +5,10 @@ use tables::id::Name;
 
 /// The first name that some call refers to and whose root unresolved list has this number.
 pub fn name_of_list<R: Store<Name>>(roots: &R, calls: &[Call], list: u32) -> Option<Name> {
-    for call in calls {
-        if let Call::DeclareReference(reference) = call
-            && roots.get(reference.name) == Some(list)
-        {
-            return Some(reference.name);
-        }
-    }
-    None
+    calls.iter().find_map(|call| match call {
+        Call::DeclareReference(reference) if roots.get(reference.name) == Some(list) => Some(
+            reference.name,
+        ),
+        _ => None,
+    })
 }

@@ -9,18 +9,25 @@ use model::call::Call;
 use model::setting::Setting;
 use std::alloc::Global;
 use stores::key::ScopeAndName;
+use stores::places::Places;
+use stores::store::LEAST_CAPACITY;
 use tables::id::{Name, ScopeId};
 
 /// How many slots each hashed store is lent: four times as many as it may come to hold.
 const SLOTS: usize = 2048;
 
 /// How many entries each list store is lent.
-const ENTRIES: usize = 512;
+const ENTRIES: usize = LEAST_CAPACITY;
 
+// A constant and no `Default`: an array is filled with it.
 const NO_KEY: ScopeAndName = ScopeAndName {
     scope: ScopeId::ROOT,
     name: Name::ARGUMENTS,
 };
+
+// The arrays are long enough for their stores, so no `unwrap` below can fail.
+
+// Two functions and no trait over both memories: it would need a store type for each key and lifetime.
 
 /// Runs the list over hashed stores.
 pub fn report_hashed(heap: Global, setting: Setting, calls: &[Call]) -> Result<String, NoMemory> {
@@ -31,9 +38,9 @@ pub fn report_hashed(heap: Global, setting: Setting, calls: &[Call]) -> Result<S
         heap,
         setting,
         calls,
-        HashStore::new(&mut bindings),
-        HashStore::new(&mut hoisting),
-        HashStore::new(&mut roots),
+        HashStore::new(Places::new(&mut bindings).unwrap()),
+        HashStore::new(Places::new(&mut hoisting).unwrap()),
+        HashStore::new(Places::new(&mut roots).unwrap()),
     )
 }
 
@@ -55,8 +62,8 @@ pub fn report_listed(heap: Global, setting: Setting, calls: &[Call]) -> Result<S
         heap,
         setting,
         calls,
-        ListStore::new(&mut bindings),
-        ListStore::new(&mut hoisting),
-        ListStore::new(&mut roots),
+        ListStore::new(Places::new(&mut bindings).unwrap()),
+        ListStore::new(Places::new(&mut hoisting).unwrap()),
+        ListStore::new(Places::new(&mut roots).unwrap()),
     )
 }

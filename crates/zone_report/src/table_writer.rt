@@ -1,45 +1,36 @@
 //! The tables of a binding, row by row.
 use crate::no_memory::NoMemory;
 use crate::script_names::name_of_list;
+use builder::builder::SemanticBuilder;
 use model::call::Call;
+use std::fmt::Display;
 use stores::key::ScopeAndName;
 use stores::store::Store;
 use tables::id::{Name, ReferenceId, ScopeId, SymbolId};
+use tables::owned::OwnedRow;
 use tables::scoping::Scoping;
-use zone_listing::entries::{
-    ConflictLine, PairLine, PairTable, PendingLine, RedeclarationLine, ResolvedLine, RootLine,
-};
-use zone_listing::rows::{CurrentLine, ReferenceLine, ScopeLine, SymbolLine};
+use zone_listing::entries::{EntryLine, PairLine, PairTable, RootLine};
+use zone_listing::rows::{CurrentLine, RowLine};
 
 // A table's rows are few: its limit is far below 32 bits.
 fn number(count: usize) -> u32 {
     u32::try_from(count).unwrap_or(u32::MAX)
 }
 
-/// The rows of scopes, symbols and references.
-fn write_rows(out: &mut String, current: ScopeId, scoping: &Scoping) -> Result<(), NoMemory> {
-    let line = CurrentLine(current);
-    writeln!(out, "{line}")?;
-    for i in 0..number(scoping.scope_count()) {
-        let scope = ScopeId(i);
-        if let Ok(row) = scoping.scope(scope) {
-            let line = ScopeLine { scope, row };
-            writeln!(out, "{line}")?;
-        }
-    }
-    for i in 0..number(scoping.symbol_count()) {
-        let symbol = SymbolId(i);
-        if let Ok(row) = scoping.symbol(symbol) {
-            let line = SymbolLine { symbol, row };
-            writeln!(out, "{line}")?;
-        }
-    }
-    for i in 0..number(scoping.reference_count()) {
-        let reference = ReferenceId(i);
-        if let Ok(row) = scoping.reference(reference) {
-            let line = ReferenceLine { reference, row };
-            writeln!(out, "{line}")?;
-        }
+/// The rows of a table, each with its id.
+fn write_rows<I: Copy, T: Copy, F: Fn(u32) -> I>(
+    out: &mut String,
+    rows: &[T],
+    id: F,
+) -> Result<(), NoMemory>
+where
+    RowLine<I, T>: Display,
+    requires { F.IsAlwaysCallable id }
+{
+    for (i, row) in rows.iter().copied().enumerate() {
+        let id = id(number(i));
+        let line = RowLine { id, row };
+        writeln!(out, "{line}")?;
     }
     Ok(())
 }
@@ -51,13 +42,16 @@ fn write_pairs<S: Store<ScopeAndName>>(
     table: PairTable,
     pairs: &S,
 ) -> Result<(), NoMemory> {
-    for i in 0..number(scoping.scope_count()) {
-        for k in 0..number(scoping.symbol_count()) {
-            let scope = ScopeId(i);
-            let symbol = SymbolId(k);
-            let name = scoping.symbol_or_empty(symbol).name;
-            let key = ScopeAndName { scope, name };
-            if pairs.get(key) == Some(k) {
+    // By number: of a scope nothing else is asked.
+    for i in 0..scoping.scopes().len() {
+        let scope = ScopeId(number(i));
+        for (k, row) in scoping.symbols().iter().enumerate() {
+            let symbol = SymbolId(number(k));
+            let key = ScopeAndName {
+                scope,
+                name: row.name,
+            };
+            if pairs.get(key) == Some(symbol.0) {
                 let line = PairLine { table, key, symbol };
                 writeln!(out, "{line}")?;
             }
@@ -66,73 +60,34 @@ fn write_pairs<S: Store<ScopeAndName>>(
     Ok(())
 }
 
-/// Redeclarations by symbol, and conflicts.
-fn write_declarations(out: &mut String, scoping: &Scoping) -> Result<(), NoMemory> {
-    for i in 0..number(scoping.symbol_count()) {
-        let mut index = 0usize;
-        for k in 0..scoping.redeclaration_count() {
-            if let Ok(entry) = scoping.redeclaration(k)
-                && entry.symbol.0 == i
-            {
-                let line = RedeclarationLine { index, entry };
-                writeln!(out, "{line}")?;
-                index = index.saturating_add(1);
-            }
-        }
-    }
-    for index in 0..scoping.conflict_count() {
-        if let Ok(entry) = scoping.conflict(index) {
-            let line = ConflictLine { index, entry };
-            writeln!(out, "{line}")?;
-        }
-    }
-    Ok(())
-}
-
-/// Pending references, and resolved ones by symbol.
-fn write_references(out: &mut String, scoping: &Scoping) -> Result<(), NoMemory> {
-    for index in 0..scoping.pending_count() {
-        if let Ok(entry) = scoping.pending(index) {
-            let line = PendingLine { index, entry };
-            writeln!(out, "{line}")?;
-        }
-    }
-    for i in 0..number(scoping.symbol_count()) {
-        let mut index = 0usize;
-        for k in 0..scoping.resolved_count() {
-            if let Ok(entry) = scoping.resolved(k)
-                && entry.symbol.0 == i
-            {
-                let line = ResolvedLine { index, entry };
-                writeln!(out, "{line}")?;
-                index = index.saturating_add(1);
-            }
-        }
-    }
-    Ok(())
-}
-
-// One root unresolved list.
-fn write_root_list(
+/// The entries of each symbol in turn.
+fn write_by_symbol<T: OwnedRow<Owner = SymbolId>>(
     out: &mut String,
-    scoping: &Scoping,
-    list: u32,
-    name: Name,
-) -> Result<(), NoMemory> {
-    let mut index = 0usize;
-    for k in 0..scoping.root_count() {
-        if let Ok(entry) = scoping.root(k)
-            && entry.list == list
-        {
-            let reference = entry.reference;
-            let line = RootLine {
-                name,
-                index,
-                reference,
-            };
+    symbols: usize,
+    entries: &[T],
+) -> Result<(), NoMemory>
+where
+    EntryLine<T>: Display,
+{
+    for i in 0..symbols {
+        let symbol = SymbolId(number(i));
+        let own = entries.iter().copied().filter(|entry| entry.is_of(symbol));
+        for (index, entry) in own.enumerate() {
+            let line = EntryLine { index, entry };
             writeln!(out, "{line}")?;
-            index = index.saturating_add(1);
         }
+    }
+    Ok(())
+}
+
+/// The entries in order.
+fn write_in_order<T: Copy>(out: &mut String, entries: &[T]) -> Result<(), NoMemory>
+where
+    EntryLine<T>: Display,
+{
+    for (index, entry) in entries.iter().copied().enumerate() {
+        let line = EntryLine { index, entry };
+        writeln!(out, "{line}")?;
     }
     Ok(())
 }
@@ -144,9 +99,23 @@ fn write_roots<R: Store<Name>>(
     roots: &R,
     calls: &[Call],
 ) -> Result<(), NoMemory> {
+    // By number: a list has no row of its own.
     for list in 0..number(roots.count()) {
-        if let Some(name) = name_of_list(roots, calls, list) {
-            write_root_list(out, scoping, list, name)?;
+        let Some(name) = name_of_list(roots, calls, list) else {
+            continue;
+        };
+        let own = scoping
+            .root()
+            .iter()
+            .copied()
+            .filter(|entry| entry.is_of(list));
+        for (index, entry) in own.enumerate() {
+            let line = RootLine {
+                name,
+                index,
+                reference: entry.reference,
+            };
+            writeln!(out, "{line}")?;
         }
     }
     Ok(())
@@ -155,17 +124,21 @@ fn write_roots<R: Store<Name>>(
 /// All tables, in the order of the format.
 pub fn write_tables<B: Store<ScopeAndName>, H: Store<ScopeAndName>, R: Store<Name>>(
     out: &mut String,
-    current: ScopeId,
-    scoping: &Scoping,
-    bindings: &B,
-    hoisting: &H,
-    roots: &R,
+    builder: &SemanticBuilder<B, H, R>,
     calls: &[Call],
 ) -> Result<(), NoMemory> {
-    write_rows(out, current, scoping)?;
-    write_pairs(out, scoping, PairTable::Bindings, bindings)?;
-    write_pairs(out, scoping, PairTable::Hoisting, hoisting)?;
-    write_declarations(out, scoping)?;
-    write_references(out, scoping)?;
-    write_roots(out, scoping, roots, calls)
+    let scoping = builder.scoping();
+    let symbols = scoping.symbols().len();
+    let line = CurrentLine(builder.current_scope());
+    writeln!(out, "{line}")?;
+    write_rows(out, scoping.scopes(), |i| ScopeId(i))?;
+    write_rows(out, scoping.symbols(), |i| SymbolId(i))?;
+    write_rows(out, scoping.references(), |i| ReferenceId(i))?;
+    write_pairs(out, scoping, PairTable::Bindings, builder.bindings())?;
+    write_pairs(out, scoping, PairTable::Hoisting, builder.hoisting())?;
+    write_by_symbol(out, symbols, scoping.redeclarations())?;
+    write_in_order(out, scoping.conflicts())?;
+    write_in_order(out, scoping.pending())?;
+    write_by_symbol(out, symbols, scoping.resolved())?;
+    write_roots(out, scoping, builder.roots(), calls)
 }

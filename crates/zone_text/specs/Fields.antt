@@ -1,12 +1,16 @@
 -- The words behind an operation's name, read as numbers from left to right. The first that is wrong decides.
-use Rattle.std.specs.Prelude.{ℕ, ◌-◌, ◌^◌, List, [], ◌∷◌, Ok, Err, Result}
+use Rattle.std.specs.Prelude.{ℕ, List, [], ◌∷◌, Ok, Err, Result}
 use Rattle.zone_text.specs.declared.operation.LineError.{LineError}
 use Rattle.zone_text.specs.declared.operation.LineError.TheVariants.{TooFewNumbers, TooManyWords}
 use Rattle.zone_text.specs.Numbers.{number_of}
 
+-- the first word, as `read` has it
+abbrev pub first_as : {X : Type 0} → (List ℕ → Result X LineError) → List (List ℕ) → Result X LineError
+first_as read [] = Err TooFewNumbers
+first_as read (w ∷ ws) = read w
+
 abbrev pub field : ℕ → List (List ℕ) → Result ℕ LineError
-field limit [] = Err TooFewNumbers
-field limit (w ∷ ws) = number_of limit w
+field limit ws = first_as (number_of limit) ws
 
 abbrev pub others : List (List ℕ) → List (List ℕ)
 others [] = []
@@ -24,14 +28,3 @@ with_number limit ws k = and_then (field limit ws) (λ n. k n (others ws))
 abbrev pub ended : {X : Type 0} → List (List ℕ) → X → Result X LineError
 ended [] x = Ok x
 ended (w ∷ ws) x = Err TooManyWords
-
--- the largest numbers of 8, 16 and 32 bits
-
-abbrev pub most_8 : ℕ
-most_8 = 2 ^ 8 - 1
-
-abbrev pub most_16 : ℕ
-most_16 = 2 ^ 16 - 1
-
-abbrev pub most_32 : ℕ
-most_32 = 2 ^ 32 - 1

@@ -11,7 +11,8 @@ use Rattle.zone_text.specs.declared.operation.Operation.TheVariants.{Setting, Ru
 use Rattle.zone_text.specs.declared.verb.Verb.{Verb}
 use Rattle.zone_text.specs.declared.verb.Verb.TheVariants.{Set, Enter, Leave, Bind, Refer, Resolve, ResolveAll}
 use Rattle.zone_text.specs.Pieces.{words, uncommented}
-use Rattle.zone_text.specs.Fields.{and_then, with_number, ended, most_8, most_16, most_32}
+use Rattle.zone_text.specs.Numbers.{most_8, most_16, most_32}
+use Rattle.zone_text.specs.Fields.{and_then, with_number, ended}
 
 abbrev pub verb_of : List ℕ → Option Verb
 verb_of w =

@@ -12,10 +12,12 @@ use model::call::{Call, Declaration, NewReference, NewScope};
 use tables::flags::{ReferenceFlags, ScopeFlags};
 use tables::id::{Name, NodeId, ScopeId};
 
+// One function for each operation, as the definitions have it: those with as many numbers share nothing but that.
+
 fn setting(line: &mut Words) -> Result<Operation, LineError>
     ensures { result ≡ operation_of Set (words line.old.rest.now) }
 {
-    let bits = line.next_u8()?;
+    let bits = line.next_number()?;
     line.end()?;
     Ok(Operation::Setting(bits))
 }
@@ -23,13 +25,11 @@ fn setting(line: &mut Words) -> Result<Operation, LineError>
 fn enter_scope(line: &mut Words) -> Result<Operation, LineError>
     ensures { result ≡ operation_of Enter (words line.old.rest.now) }
 {
-    let flags = line.next_u16()?;
-    let node = line.next_u32()?;
-    line.end()?;
     let scope = NewScope {
-        flags: ScopeFlags(flags),
-        node: NodeId(node),
+        flags: ScopeFlags(line.next_number()?),
+        node: NodeId(line.next_number()?),
     };
+    line.end()?;
     Ok(Operation::Run(Call::EnterScope(scope)))
 }
 
@@ -43,45 +43,35 @@ fn leave_scope(line: &mut Words) -> Result<Operation, LineError>
 fn bind(line: &mut Words) -> Result<Operation, LineError>
     ensures { result ≡ operation_of Bind (words line.old.rest.now) }
 {
-    let kind = line.next_u8()?;
-    let modifiers = line.next_u8()?;
-    let name = line.next_u32()?;
-    let start = line.next_u32()?;
-    let end = line.next_u32()?;
-    let node = line.next_u32()?;
-    line.end()?;
     let declaration = Declaration {
-        kind,
-        modifiers,
-        name: Name(name),
-        start,
-        end,
-        node: NodeId(node),
+        kind: line.next_number()?,
+        modifiers: line.next_number()?,
+        name: Name(line.next_number()?),
+        start: line.next_number()?,
+        end: line.next_number()?,
+        node: NodeId(line.next_number()?),
     };
+    line.end()?;
     Ok(Operation::Run(Call::Bind(declaration)))
 }
 
 fn reference(line: &mut Words) -> Result<Operation, LineError>
     ensures { result ≡ operation_of Refer (words line.old.rest.now) }
 {
-    let name = line.next_u32()?;
-    let scope = line.next_u32()?;
-    let flags = line.next_u8()?;
-    let node = line.next_u32()?;
-    line.end()?;
     let reference = NewReference {
-        name: Name(name),
-        scope: ScopeId(scope),
-        flags: ReferenceFlags(flags),
-        node: NodeId(node),
+        name: Name(line.next_number()?),
+        scope: ScopeId(line.next_number()?),
+        flags: ReferenceFlags(line.next_number()?),
+        node: NodeId(line.next_number()?),
     };
+    line.end()?;
     Ok(Operation::Run(Call::DeclareReference(reference)))
 }
 
 fn resolve(line: &mut Words) -> Result<Operation, LineError>
     ensures { result ≡ operation_of Resolve (words line.old.rest.now) }
 {
-    let start = line.next_u32()?;
+    let start = line.next_number()?;
     line.end()?;
     Ok(Operation::Run(Call::ResolveReferences(start)))
 }
@@ -117,9 +107,6 @@ pub fn parse_line(line: &[u8]) -> Result<Option<Operation>, LineError>
     let Some(word) = words.next() else {
         return Ok(None);
     };
-    let Some(verb) = Verb::from_word(word) else {
-        return Err(LineError::UnknownWord);
-    };
-    let operation = operation(verb, &mut words)?;
-    Ok(Some(operation))
+    let verb = Verb::from_word(word).ok_or(LineError::UnknownWord)?;
+    Ok(Some(operation(verb, &mut words)?))
 }

@@ -1,30 +1,21 @@
 //! Decimal numbers.
-ghost use Rattle.std.specs.Prelude.{◌≡◌, ◌^◌, ◌<◌};
-ghost use Rattle.zone_text.specs.Numbers.{is_digit, is_number, number_of};
+ghost use Rattle.std.specs.Prelude.{◌≡◌, ℕ, ◌^◌, ◌<◌, ◌≤◌, List, IfOk, Result};
+ghost use Rattle.zone_text.specs.Numbers.{is_number, number_of, most_8, most_16, most_32};
+ghost use Rattle.zone_text.specs.declared.operation.LineError.{LineError};
 
 use crate::operation::LineError;
-
-fn is_digit(byte: u8) -> bool
-    ensures { result ≡ is_digit byte }
-{
-    b'0' <= byte && byte <= b'9'
-}
 
 /// Whether a word has digits alone, and at least one.
 fn is_number(word: &[u8]) -> bool
     ensures { result ≡ is_number word.now }
 {
-    for byte in word {
-        if !is_digit(*byte) {
-            return false;
-        }
-    }
-    !word.is_empty()
+    !word.is_empty() && word.iter().all(|byte| byte.is_ascii_digit())
 }
 
 /// The number that a word spells, if it is at most the limit.
 pub fn number(word: &[u8], limit: u32) -> Result<u32, LineError>
-    ensures { result ≡ number_of limit word.now }
+    ensures value { result ≡ number_of limit word.now }
+    ensures bound { IfOk result (λ n. n ≤ limit) }
 {
     if !is_number(word) {
         return Err(LineError::NotANumber);
@@ -38,4 +29,39 @@ pub fn number(word: &[u8], limit: u32) -> Result<u32, LineError>
         }
     }
     Ok(value as u32)
+}
+
+/// The widths that the field of a line may have.
+pub trait Field: Sized {
+    ghost reads: { List ℕ → Result Self LineError };
+
+    /// The number that a word spells, if it fits the field.
+    fn read(word: &[u8]) -> Result<Self, LineError>
+        ensures { result ≡ reads word.now };
+}
+
+impl Field for u8 {
+    ghost reads = { number_of most_8 };
+
+    fn read(word: &[u8]) -> Result<u8, LineError> {
+        let number = number(word, u32::from(u8::MAX))?;
+        Ok(number as u8)
+    }
+}
+
+impl Field for u16 {
+    ghost reads = { number_of most_16 };
+
+    fn read(word: &[u8]) -> Result<u16, LineError> {
+        let number = number(word, u32::from(u16::MAX))?;
+        Ok(number as u16)
+    }
+}
+
+impl Field for u32 {
+    ghost reads = { number_of most_32 };
+
+    fn read(word: &[u8]) -> Result<u32, LineError> {
+        number(word, u32::MAX)
+    }
 }

@@ -3,13 +3,13 @@ use model::call::Call;
 
 #[derive(Clone, Copy)]
 pub enum Operation {
-    /// The bits of the setting under which the list is run.
+    /// The bits of the setting under which the list is run: any, since bits that are not listed are no bad line but a refusal.
     Setting(u8),
     Run(Call),
 }
 
 /// What is wrong with a line.
-#[derive(Clone, Copy, PartialEq, Debug)]
+#[derive(Clone, Copy, PartialEq, Eq, Debug)]
 pub enum LineError {
     /// The first word names no operation.
     UnknownWord,

@@ -1,12 +1,13 @@
 //! A whole operation list.
 ghost use Rattle.std.specs.Prelude.{◌≡◌, Ok, MatchResult};
+ghost use Rattle.zone_text.specs.declared.script.ParseError.TheVariants.{Line, NoMemory};
 ghost use Rattle.zone_text.specs.Scripts.{content, with_line, text_meaning, Tells};
 
 use crate::line::parse_line;
 use crate::operation::{LineError, Operation};
-use crate::separator::{Separator, cut};
+use crate::separator::Separator;
 use model::call::Call;
-use std::alloc::Global;
+use std::alloc::{AllocFailed, Global};
 
 /// The operations of a list.
 #[derive(Drop)]
@@ -16,18 +17,34 @@ pub struct Script {
     pub calls: Vec<Call>,
 }
 
-#[derive(Clone, Copy)]
+#[derive(Clone, Copy, PartialEq, Eq, Debug)]
 pub struct BadLine {
     /// Counted from 1.
     pub number: usize,
     pub error: LineError,
 }
 
-#[derive(Clone, Copy)]
+#[derive(Clone, Copy, PartialEq, Eq, Debug)]
 pub enum ParseError {
     /// The first line that is no operation.
     Line(BadLine),
     NoMemory,
+}
+
+impl From<BadLine> for ParseError {
+    ghost from_gives = { λ bad e. e ≡ Line bad };
+
+    fn from(bad: BadLine) -> ParseError {
+        ParseError::Line(bad)
+    }
+}
+
+impl<T: Drop> From<AllocFailed<T>> for ParseError {
+    ghost from_gives = { λ _ e. e ≡ NoMemory };
+
+    fn from(_error: AllocFailed<T>) -> ParseError {
+        ParseError::NoMemory
+    }
 }
 
 impl Script {
@@ -35,22 +52,18 @@ impl Script {
     fn add_line(&mut self, number: usize, line: &[u8]) -> Result<(), ParseError>
         ensures { MatchResult result (λ _. with_line number (content self.old) line.now ≡ Ok (content self.new)) (λ e. Tells e (with_line number (content self.old) line.now)) }
     {
-        match parse_line(line) {
-            Ok(None) => Ok(()),
-            Ok(Some(Operation::Setting(bits))) => {
+        let bad = |error| BadLine { number, error };
+        match parse_line(line).map_err(bad)? {
+            None => {}
+            Some(Operation::Setting(bits)) => {
                 if self.setting.is_some() || !self.calls.is_empty() {
-                    let error = LineError::SettingNotFirst;
-                    return Err(ParseError::Line(BadLine { number, error }));
+                    return Err(ParseError::Line(bad(LineError::SettingNotFirst)));
                 }
                 self.setting = Some(bits);
-                Ok(())
             }
-            Ok(Some(Operation::Run(call))) => match self.calls.push(call) {
-                Ok(()) => Ok(()),
-                Err(_) => Err(ParseError::NoMemory),
-            },
-            Err(error) => Err(ParseError::Line(BadLine { number, error })),
+            Some(Operation::Run(call)) => self.calls.push(call)?,
         }
+        Ok(())
     }
 }
 
@@ -62,13 +75,9 @@ pub fn parse(heap: Global, text: &[u8]) -> Result<Script, ParseError>
         setting: None,
         calls: Vec::new(heap),
     };
-    let mut rest = text;
-    let mut number = 1;
-    while !rest.is_empty() {
-        let (line, behind) = cut(rest, Separator::Newline);
-        script.add_line(number, line)?;
-        rest = behind;
-        number += 1;
+    let lines = text.split(|byte| Separator::Newline.separates(*byte));
+    for (index, line) in lines.enumerate() {
+        script.add_line(index + 1, line)?;
     }
     Ok(script)
 }

@@ -9,21 +9,21 @@ use tables::scoping::Scoping;
 
 impl<B: Store<ScopeAndName>, H: Store<ScopeAndName>, R: Store<Name>> SemanticBuilder<B, H, R> {
     pub fn scoping(&self) -> &Scoping
-        ensures { result.now ≡ self.now.scoping }
+        ensures { result.now ≡ self.now.names.scoping }
     {
-        &self.scoping
+        &self.names.scoping
     }
 
     pub fn bindings(&self) -> &B
-        ensures { result.now ≡ self.now.bindings }
+        ensures { result.now ≡ self.now.names.bindings }
     {
-        &self.bindings
+        &self.names.bindings
     }
 
     pub fn hoisting(&self) -> &H
-        ensures { result.now ≡ self.now.hoisting }
+        ensures { result.now ≡ self.now.names.hoisting }
     {
-        &self.hoisting
+        &self.names.hoisting
     }
 
     pub fn roots(&self) -> &R

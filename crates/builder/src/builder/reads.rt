@@ -12,10 +12,11 @@ ghost use Rattle.builder.specs.State.{view};
 ghost use Rattle.builder.specs.Reading.{symbol_at};
 
 use super::SemanticBuilder;
-use lookup::search::{binding_in, find_binding};
+use lookup::search::binding_in;
 use stores::key::ScopeAndName;
 use stores::store::Store;
 use tables::id::{Name, ReferenceId, ScopeId, SymbolId};
+use tables::owned::{count_of, row_of};
 use tables::refusal::Refusal;
 use tables::row::{
     Conflict, Redeclaration, ReferenceRow, ScopeRow, SymbolRow, UnresolvedReference,
@@ -23,150 +24,151 @@ use tables::row::{
 use tables::span::Span;
 
 impl<B: Store<ScopeAndName>, H: Store<ScopeAndName>, R: Store<Name>> SemanticBuilder<B, H, R> {
+    // A count and a read for each table: they are the builder's interface, and each is a line over the table's slice.
+
     pub fn current_scope(&self) -> ScopeId
-        ensures { result.0 ≡ (view B.PairSet.pairs H.PairSet.pairs R.PairSet.pairs self.now).current }
+        ensures { result.0 ≡ (view self.now).current }
     {
         self.current
     }
 
     pub fn scope_count(&self) -> usize
-        ensures { result ≡ length (view B.PairSet.pairs H.PairSet.pairs R.PairSet.pairs self.now).scopes }
+        ensures { result ≡ length (view self.now).scopes }
     {
-        self.scoping.scope_count()
+        self.names.scoping.scopes().len()
     }
 
     pub fn scope(&self, id: ScopeId) -> Result<ScopeRow, Refusal>
-        ensures { result ≡ row_answer (slice_get (view B.PairSet.pairs H.PairSet.pairs R.PairSet.pairs self.now).scopes id.0) }
+        ensures { result ≡ row_answer (slice_get (view self.now).scopes id.0) }
     {
-        self.scoping.scope(id)
+        self.names.scoping.scope(id)
     }
 
     pub fn symbol_count(&self) -> usize
-        ensures { result ≡ length (view B.PairSet.pairs H.PairSet.pairs R.PairSet.pairs self.now).names.symbols }
+        ensures { result ≡ length (view self.now).names.symbols }
     {
-        self.scoping.symbol_count()
+        self.names.scoping.symbols().len()
     }
 
     pub fn symbol(&self, id: SymbolId) -> Result<SymbolRow, Refusal>
-        ensures { result ≡ row_answer (slice_get (view B.PairSet.pairs H.PairSet.pairs R.PairSet.pairs self.now).names.symbols id.0) }
+        ensures { result ≡ row_answer (slice_get (view self.now).names.symbols id.0) }
     {
-        self.scoping.symbol(id)
+        self.names.scoping.symbol(id)
     }
 
     pub fn symbol_span(&self, id: SymbolId) -> Result<Span, Refusal>
-        ensures { span_ends result ≡ if_there (slice_get (view B.PairSet.pairs H.PairSet.pairs R.PairSet.pairs self.now).names.symbols id.0) symbol_ends }
+        ensures { span_ends result ≡ if_there (slice_get (view self.now).names.symbols id.0) symbol_ends }
     {
-        self.scoping.symbol_span(id)
+        self.names.scoping.symbol_span(id)
     }
 
     pub fn reference_count(&self) -> usize
-        ensures { result ≡ length (view B.PairSet.pairs H.PairSet.pairs R.PairSet.pairs self.now).uses.references }
+        ensures { result ≡ length (view self.now).uses.references }
     {
-        self.scoping.reference_count()
+        self.names.scoping.references().len()
     }
 
     pub fn reference(&self, id: ReferenceId) -> Result<ReferenceRow, Refusal>
-        ensures { result ≡ row_answer (slice_get (view B.PairSet.pairs H.PairSet.pairs R.PairSet.pairs self.now).uses.references id.0) }
+        ensures { result ≡ row_answer (slice_get (view self.now).uses.references id.0) }
     {
-        self.scoping.reference(id)
+        self.names.scoping.reference(id)
     }
 
     /// The symbol that the name is bound to in the scope.
     pub fn binding(&self, scope: ScopeId, name: Name) -> Result<Option<SymbolId>, Refusal>
-        ensures { result ≡ if_there (slice_get (view B.PairSet.pairs H.PairSet.pairs R.PairSet.pairs self.now).scopes scope.0) (λ _. Ok (symbol_at (binding (view B.PairSet.pairs H.PairSet.pairs R.PairSet.pairs self.now).names scope.0 name.0))) }
+        ensures { result ≡ if_there (slice_get (view self.now).scopes scope.0) (λ _. Ok (symbol_at (binding (view self.now).names scope.0 name.0))) }
     {
-        self.scoping.scope(scope)?;
-        Ok(binding_in(&self.bindings, scope, name))
+        self.scope(scope)?;
+        Ok(binding_in(&self.names.bindings, scope, name))
     }
 
     /// The symbol of the name's hoisted variable in the scope.
     pub fn hoisted_variable(&self, scope: ScopeId, name: Name) -> Result<Option<SymbolId>, Refusal>
-        ensures { result ≡ if_there (slice_get (view B.PairSet.pairs H.PairSet.pairs R.PairSet.pairs self.now).scopes scope.0) (λ _. Ok (symbol_at (hoisted (view B.PairSet.pairs H.PairSet.pairs R.PairSet.pairs self.now).names scope.0 name.0))) }
+        ensures { result ≡ if_there (slice_get (view self.now).scopes scope.0) (λ _. Ok (symbol_at (hoisted (view self.now).names scope.0 name.0))) }
     {
-        self.scoping.scope(scope)?;
-        Ok(binding_in(&self.hoisting, scope, name))
+        self.scope(scope)?;
+        Ok(binding_in(&self.names.hoisting, scope, name))
     }
 
     /// The first binding of the name in the scope or an ancestor, whatever its symbol.
     pub fn find_binding(&self, scope: ScopeId, name: Name) -> Result<Option<SymbolId>, Refusal>
-        ensures { result ≡ if_there (slice_get (view B.PairSet.pairs H.PairSet.pairs R.PairSet.pairs self.now).scopes scope.0) (λ _. Ok (symbol_at (first_binding (view B.PairSet.pairs H.PairSet.pairs R.PairSet.pairs self.now).names.bindings name.0 (chain (view B.PairSet.pairs H.PairSet.pairs R.PairSet.pairs self.now).scopes scope.0)))) }
+        ensures { result ≡ if_there (slice_get (view self.now).scopes scope.0) (λ _. Ok (symbol_at (first_binding (view self.now).names.bindings name.0 (chain (view self.now).scopes scope.0)))) }
     {
-        self.scoping.scope(scope)?;
-        Ok(find_binding(&self.scoping, &self.bindings, scope, name))
+        self.scope(scope)?;
+        Ok(self.names.find_binding(scope, name))
     }
 
     pub fn conflict_count(&self) -> usize
-        ensures { result ≡ length (view B.PairSet.pairs H.PairSet.pairs R.PairSet.pairs self.now).names.conflicts }
+        ensures { result ≡ length (view self.now).names.conflicts }
     {
-        self.scoping.conflict_count()
+        self.names.scoping.conflicts().len()
     }
 
     pub fn conflict(&self, k: usize) -> Result<Conflict, Refusal>
-        ensures { result ≡ row_answer (slice_get (view B.PairSet.pairs H.PairSet.pairs R.PairSet.pairs self.now).names.conflicts k) }
+        ensures { result ≡ row_answer (slice_get (view self.now).names.conflicts k) }
     {
-        self.scoping.conflict(k)
+        let conflicts = self.names.scoping.conflicts();
+        conflicts.get(k).copied().ok_or(Refusal::Absent)
     }
 
     pub fn pending_count(&self) -> usize
-        ensures { result ≡ length (view B.PairSet.pairs H.PairSet.pairs R.PairSet.pairs self.now).uses.pending }
+        ensures { result ≡ length (view self.now).uses.pending }
     {
-        self.scoping.pending_count()
+        self.names.scoping.pending().len()
     }
 
     pub fn pending(&self, k: usize) -> Result<UnresolvedReference, Refusal>
-        ensures { result ≡ row_answer (slice_get (view B.PairSet.pairs H.PairSet.pairs R.PairSet.pairs self.now).uses.pending k) }
+        ensures { result ≡ row_answer (slice_get (view self.now).uses.pending k) }
     {
-        self.scoping.pending(k)
+        let pending = self.names.scoping.pending();
+        pending.get(k).copied().ok_or(Refusal::Absent)
     }
 
     /// How many declarations of the symbol are written down: none if it was declared once.
     pub fn redeclaration_count(&self, symbol: SymbolId) -> Result<usize, Refusal>
-        ensures { result ≡ if_there (slice_get (view B.PairSet.pairs H.PairSet.pairs R.PairSet.pairs self.now).names.symbols symbol.0) (λ _. Ok (length (redeclarations_of symbol.0 (view B.PairSet.pairs H.PairSet.pairs R.PairSet.pairs self.now).names.redeclarations))) }
+        ensures { result ≡ if_there (slice_get (view self.now).names.symbols symbol.0) (λ _. Ok (length (redeclarations_of symbol.0 (view self.now).names.redeclarations))) }
     {
-        self.scoping.symbol(symbol)?;
-        Ok(self.scoping.redeclaration_count_of(symbol))
+        self.symbol(symbol)?;
+        Ok(count_of(self.names.scoping.redeclarations(), symbol))
     }
 
     pub fn redeclaration(&self, symbol: SymbolId, k: usize) -> Result<Redeclaration, Refusal>
-        ensures { result ≡ if_there (slice_get (view B.PairSet.pairs H.PairSet.pairs R.PairSet.pairs self.now).names.symbols symbol.0) (λ _. row_answer (slice_get (redeclarations_of symbol.0 (view B.PairSet.pairs H.PairSet.pairs R.PairSet.pairs self.now).names.redeclarations) k)) }
+        ensures { result ≡ if_there (slice_get (view self.now).names.symbols symbol.0) (λ _. row_answer (slice_get (redeclarations_of symbol.0 (view self.now).names.redeclarations) k)) }
     {
-        self.scoping.symbol(symbol)?;
-        self.scoping.redeclaration_of(symbol, k)
+        self.symbol(symbol)?;
+        let row = row_of(self.names.scoping.redeclarations(), symbol, k);
+        row.ok_or(Refusal::Absent)
     }
 
     /// How many references were resolved to the symbol.
     pub fn resolved_count(&self, symbol: SymbolId) -> Result<usize, Refusal>
-        ensures { result ≡ if_there (slice_get (view B.PairSet.pairs H.PairSet.pairs R.PairSet.pairs self.now).names.symbols symbol.0) (λ _. Ok (length (resolved_of symbol.0 (view B.PairSet.pairs H.PairSet.pairs R.PairSet.pairs self.now).uses.resolved))) }
+        ensures { result ≡ if_there (slice_get (view self.now).names.symbols symbol.0) (λ _. Ok (length (resolved_of symbol.0 (view self.now).uses.resolved))) }
     {
-        self.scoping.symbol(symbol)?;
-        Ok(self.scoping.resolved_count_of(symbol))
+        self.symbol(symbol)?;
+        Ok(count_of(self.names.scoping.resolved(), symbol))
     }
 
     pub fn resolved(&self, symbol: SymbolId, k: usize) -> Result<ReferenceId, Refusal>
-        ensures { result ≡ if_there (slice_get (view B.PairSet.pairs H.PairSet.pairs R.PairSet.pairs self.now).names.symbols symbol.0) (λ _. if_there (slice_get (resolved_of symbol.0 (view B.PairSet.pairs H.PairSet.pairs R.PairSet.pairs self.now).uses.resolved) k) (λ e. Ok e.reference)) }
+        ensures { result ≡ if_there (slice_get (view self.now).names.symbols symbol.0) (λ _. if_there (slice_get (resolved_of symbol.0 (view self.now).uses.resolved) k) (λ e. Ok e.reference)) }
     {
-        self.scoping.symbol(symbol)?;
-        let row = self.scoping.resolved_of(symbol, k)?;
-        Ok(row.reference)
+        self.symbol(symbol)?;
+        let row = row_of(self.names.scoping.resolved(), symbol, k);
+        row.map(|row| row.reference).ok_or(Refusal::Absent)
     }
 
     /// How many references the root unresolved list of the name has.
     pub fn root_unresolved_count(&self, name: Name) -> usize
-        ensures { result ≡ maybe ((view B.PairSet.pairs H.PairSet.pairs R.PairSet.pairs self.now).uses.roots.get (the_name name.0)) 0 (λ list. length (root_of list (view B.PairSet.pairs H.PairSet.pairs R.PairSet.pairs self.now).uses.root)) }
+        ensures { result ≡ maybe ((view self.now).uses.roots.get (the_name name.0)) 0 (λ list. length (root_of list (view self.now).uses.root)) }
     {
-        match self.roots.get(name) {
-            Some(list) => self.scoping.root_count_of(list),
-            None => 0,
-        }
+        let list = self.roots.get(name);
+        list.map_or(0, |list| count_of(self.names.scoping.root(), list))
     }
 
     pub fn root_unresolved(&self, name: Name, k: usize) -> Result<ReferenceId, Refusal>
-        ensures { result ≡ if_there ((view B.PairSet.pairs H.PairSet.pairs R.PairSet.pairs self.now).uses.roots.get (the_name name.0)) (λ list. if_there (slice_get (root_of list (view B.PairSet.pairs H.PairSet.pairs R.PairSet.pairs self.now).uses.root) k) (λ e. Ok e.reference)) }
+        ensures { result ≡ if_there ((view self.now).uses.roots.get (the_name name.0)) (λ list. if_there (slice_get (root_of list (view self.now).uses.root) k) (λ e. Ok e.reference)) }
     {
-        let Some(list) = self.roots.get(name) else {
-            return Err(Refusal::Absent);
-        };
-        let row = self.scoping.root_of(list, k)?;
-        Ok(row.reference)
+        let list = self.roots.get(name).ok_or(Refusal::Absent)?;
+        let row = row_of(self.names.scoping.root(), list, k);
+        row.map(|row| row.reference).ok_or(Refusal::Absent)
     }
 }

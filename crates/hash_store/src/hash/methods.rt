@@ -1,21 +1,23 @@
 //! A hashed store keeps a store's promises.
 ghost use Rattle.std.specs.Prelude.{◌≡◌, ℕ, ◌%◌, ◌<◌, true, false, length, IfSome, MatchOption, slice_index_or};
-ghost use Rattle.hash_store.specs.declared.slot.Slot.TheVariants.{Empty};
+ghost use Rattle.hash_store.specs.declared.slot.Slot.TheVariants.{Empty, Deleted};
 ghost use Rattle.hash_store.specs.Meaning.{pairs_of, capacity_of};
 ghost use Rattle.hash_store.specs.Slots.{is_full, matches, spot, steps, bounded, Unpassed, Nearer};
 
 use super::HashStore;
-use crate::probe::{find, movable, number_of, vacant};
+use crate::probe::{find, movable, vacant};
 use crate::slot::Slot;
 use stores::key::Key;
 use stores::store::{PairSet, Store};
 use tables::refusal::Refusal;
 
 impl<'a, K: Key> HashStore<'a, K> {
+    // The searches need slots alone; these say of a store what they say of slots.
+
     /// The slot that holds the pair of `key`.
     fn place(&self, key: K) -> Option<usize>
         ensures within { IfSome result (λ i. i < length self.now.slots.now) }
-        ensures place { MatchOption result ((j : ℕ) → matches K.Key.same (K.Key.hash key) key (slice_index_or self.now.slots.now j Empty) ≡ false) (λ i. matches K.Key.same (K.Key.hash key) key (slice_index_or self.now.slots.now i Empty) ≡ true) }
+        ensures place { MatchOption result ((j : ℕ) → matches K.eq (K.Key.hash key) key (slice_index_or self.now.slots.now j Empty) ≡ false) (λ i. matches K.eq (K.Key.hash key) key (slice_index_or self.now.slots.now i Empty) ≡ true) }
     {
         find(&*self.slots, key)
     }
@@ -42,17 +44,13 @@ impl<'a, K: Key> HashStore<'a, K> {
     /// Moves a pair into the hole that a removed one left, then one into the hole that this leaves, until a hole can stay empty.
     fn close(&mut self, start: usize)
         requires within { start < length self.old.slots.now }
-        requires free { is_full (slice_index_or self.old.slots.now start Empty) ≡ false }
-        ensures after { pairs_of K.Key.same K.Key.hash self.new ≡ pairs_of K.Key.same K.Key.hash self.old }
+        requires hole { slice_index_or self.old.slots.now start Empty ≡ Deleted }
+        ensures after { pairs_of K.eq K.Key.hash self.new ≡ pairs_of K.eq K.Key.hash self.old }
         ensures places { capacity_of self.new ≡ capacity_of self.old }
     {
         let mut hole = start;
         while let Some(at) = self.filler(hole) {
-            let slot = self.slots[at];
-            self.slots[at] = Slot::Deleted;
-            self.count -= 1;
-            self.slots[hole] = slot;
-            self.count += 1;
+            self.slots.swap(at, hole);
             hole = at;
         }
         self.slots[hole] = Slot::Empty;
@@ -60,7 +58,7 @@ impl<'a, K: Key> HashStore<'a, K> {
 }
 
 impl<'a, K: Key> PairSet<K> for HashStore<'a, K> {
-    ghost pairs = { pairs_of K.Key.same K.Key.hash };
+    ghost pairs = { pairs_of K.eq K.Key.hash };
 
     ghost capacity = { capacity_of };
 
@@ -69,7 +67,11 @@ impl<'a, K: Key> PairSet<K> for HashStore<'a, K> {
 
 impl<'a, K: Key> Store<K> for HashStore<'a, K> {
     fn get(&self, key: K) -> Option<u32> {
-        number_of(&*self.slots, key)
+        let i = self.place(key)?;
+        match self.slots[i] {
+            Slot::Full { number, .. } => Some(number),
+            _ => None,
+        }
     }
 
     fn count(&self) -> usize {
@@ -78,20 +80,16 @@ impl<'a, K: Key> Store<K> for HashStore<'a, K> {
 
     fn insert(&mut self, key: K, number: u32) -> Result<(), Refusal> {
         let hash = key.hash_number();
-        match self.place(key) {
-            Some(i) => {
-                self.slots[i] = Slot::Full { key, hash, number };
-                Ok(())
-            }
-            None => match self.room(hash) {
-                Some(i) => {
-                    self.slots[i] = Slot::Full { key, hash, number };
-                    self.count += 1;
-                    Ok(())
-                }
-                None => Err(Refusal::StoreFull),
-            },
+        if let Some(i) = self.place(key) {
+            self.slots[i] = Slot::Full { key, hash, number };
+        } else {
+            let Some(free) = self.room(hash) else {
+                return Err(Refusal::StoreFull);
+            };
+            self.slots[free] = Slot::Full { key, hash, number };
+            self.count += 1;
         }
+        Ok(())
     }
 
     fn remove(&mut self, key: K) {
@@ -107,6 +105,7 @@ impl<'a, K: Key> Store<K> for HashStore<'a, K> {
             return;
         }
         // First the pairs go, since an empty slot would cut others off from their homes.
+        // By an index, since a slot and the count change together.
         for i in 0..self.slots.len() {
             let slot = self.slots[i];
             if slot.is_full() {
@@ -114,8 +113,6 @@ impl<'a, K: Key> Store<K> for HashStore<'a, K> {
                 self.count -= 1;
             }
         }
-        for at in 0..self.slots.len() {
-            self.slots[at] = Slot::Empty;
-        }
+        self.slots.fill(Slot::Empty);
     }
 }

@@ -1,86 +1,72 @@
-ghost use Rattle.std.specs.Prelude.{◌≡◌, not, ◌&&◌, ◌||◌};
-ghost use Rattle.model.specs.Kinds.{includes, excludes, manner};
+ghost use Rattle.std.specs.Prelude.{◌≡◌};
+ghost use Rattle.model.specs.Kinds.{includes, excludes};
 ghost use Rattle.kinds.specs.KindNumbers.{number_of};
 ghost use Rattle.kinds.specs.Checking.{Checks, tells_of, manner_of};
 
 use super::Checked;
 use crate::binder::Binder;
 use crate::kind::Kind;
-use crate::kind::table::{ASYNC, DECLARE, IF_BODY, UNIQUE};
+use crate::modifiers::Modifiers;
 use crate::told::Told;
 use model::call::Declaration;
 use model::manner::Manner;
-use tables::flags::SymbolFlags;
+use tables::flags::{FlagSet, SymbolFlags};
 use tables::refusal::Refusal;
 use tables::span::Span;
 
-const NO_MODIFIER: u8 = 0;
-
 /// The declaration, unless its kind, modifiers or span refuse it.
+// A function and no `TryFrom`: its name says what is done, and its promise is a clause of its own.
 pub fn check(declaration: Declaration) -> Result<Checked, Refusal>
     ensures { Checks declaration result }
 {
-    let Some(kind) = Kind::from_number(declaration.kind) else {
-        return Err(Refusal::UnknownKind);
-    };
-    if declaration.modifiers & kind.modifiers() != declaration.modifiers {
+    let kind = Kind::try_from(declaration.kind)?;
+    let modifiers = Modifiers(declaration.modifiers);
+    if !modifiers.is_within(kind.row().modifiers) {
         return Err(Refusal::ModifierNotOfKind);
     }
+    // By `else`, since after `ok_or(..)?` the check leaves the case of no span to a proof by hand.
     let Some(span) = Span::new(declaration.start, declaration.end) else {
         return Err(Refusal::SpanReversed);
     };
     Ok(Checked {
         kind,
-        modifiers: declaration.modifiers,
+        modifiers,
         name: declaration.name,
         span,
         node: declaration.node,
     })
 }
 
-impl Kind {
-    fn includes(self, modifiers: u8) -> SymbolFlags
-        ensures { result.0 ≡ includes (number_of self) modifiers }
+impl Checked {
+    /// The flags that it gives its symbol.
+    fn includes(&self) -> SymbolFlags
+        ensures { result.0 ≡ includes (number_of self.now.kind) self.now.modifiers.0 }
     {
-        let ambient = if modifiers & DECLARE != NO_MODIFIER {
-            SymbolFlags::AMBIENT
-        } else {
-            SymbolFlags::NONE
-        };
-        let special = if modifiers & ASYNC != NO_MODIFIER {
-            SymbolFlags::ASYNC_OR_GENERATOR
-        } else {
-            SymbolFlags::NONE
-        };
-        self.own_includes().union(ambient).union(special)
-    }
-
-    fn excludes(self, modifiers: u8, typescript: bool, strict: bool) -> SymbolFlags
-        ensures { result.0 ≡ excludes (number_of self) modifiers typescript strict }
-    {
-        match self {
-            Kind::Function if !typescript && modifiers & IF_BODY != NO_MODIFIER && !strict =>
-                SymbolFlags::NONE,
-            Kind::Function | Kind::FunctionExpression if !typescript => self
-                .own_excludes()
-                .difference(SymbolFlags::FUNCTION_SCOPED_VARIABLE),
-            Kind::Parameter if modifiers & UNIQUE != NO_MODIFIER || strict => self
-                .own_excludes()
-                .union(SymbolFlags::FUNCTION_SCOPED_VARIABLE),
-            _ => self.own_excludes(),
+        let mut includes = self.kind.row().includes;
+        if self.modifiers.intersects(Modifiers::DECLARE) {
+            includes = includes.union(SymbolFlags::AMBIENT);
         }
+        if self.modifiers.intersects(Modifiers::ASYNC) {
+            includes = includes.union(SymbolFlags::ASYNC_OR_GENERATOR);
+        }
+        includes
     }
 
-    fn manner(self, modifiers: u8, typescript: bool, strict: bool, var: bool) -> Manner
-        ensures { result ≡ manner (number_of self) modifiers typescript strict var }
+    /// The flags that it may not stand beside.
+    fn excludes(&self, typescript: bool, strict: bool) -> SymbolFlags
+        ensures { result.0 ≡ excludes (number_of self.now.kind) self.now.modifiers.0 typescript strict }
     {
-        match self {
-            Kind::Var => Manner::Hoisted,
-            Kind::CatchName => Manner::Shadow,
-            Kind::Infer => Manner::Conditional,
-            Kind::Function if modifiers & ASYNC == NO_MODIFIER && !typescript && !strict && !var =>
-                Manner::MovedOut,
-            _ => Manner::Here,
+        let excludes = self.kind.row().excludes;
+        match self.kind {
+            Kind::Function
+                if !typescript && self.modifiers.intersects(Modifiers::IF_BODY) && !strict =>
+                SymbolFlags::NONE,
+            Kind::Function | Kind::FunctionExpression if !typescript => excludes.difference(
+                SymbolFlags::FUNCTION_SCOPED_VARIABLE,
+            ),
+            Kind::Parameter if self.modifiers.intersects(Modifiers::UNIQUE) || strict =>
+                excludes.union(SymbolFlags::FUNCTION_SCOPED_VARIABLE),
+            _ => excludes,
         }
     }
 }
@@ -91,18 +77,24 @@ impl Binder for Checked {
     ghost how = { manner_of };
 
     fn told(&self, typescript: bool, strict: bool) -> Told {
-        let includes = self.kind.includes(self.modifiers);
-        let excludes = self.kind.excludes(self.modifiers, typescript, strict);
         Told {
             name: self.name,
             span: self.span,
             node: self.node,
-            includes,
-            excludes,
+            includes: self.includes(),
+            excludes: self.excludes(typescript, strict),
         }
     }
 
     fn manner(&self, typescript: bool, strict: bool, var: bool) -> Manner {
-        self.kind.manner(self.modifiers, typescript, strict, var)
+        match self.kind {
+            Kind::Var => Manner::Hoisted,
+            Kind::CatchName => Manner::Shadow,
+            Kind::Infer => Manner::Conditional,
+            Kind::Function
+                if !self.modifiers.intersects(Modifiers::ASYNC) && !typescript && !strict && !var =>
+                Manner::MovedOut,
+            _ => Manner::Here,
+        }
     }
 }

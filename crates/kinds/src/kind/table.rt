@@ -1,26 +1,30 @@
-//! What each kind of declaration takes, gives and excludes.
+//! The number of each kind of declaration, and its row: what it takes, gives and excludes.
 ghost use Rattle.std.specs.Prelude.{◌≡◌};
+ghost use Rattle.std.specs.Option.{ok_or};
+ghost use Rattle.tables.specs.declared.refusal.Refusal.TheVariants.{UnknownKind};
 ghost use Rattle.model.specs.Kinds.{kind_row};
 ghost use Rattle.kinds.specs.KindNumbers.{kind_of, number_of};
+ghost use Rattle.kinds.specs.Telling.{plain_row};
 
 use super::Kind;
+use crate::modifiers::Modifiers;
 use tables::flags::SymbolFlags;
+use tables::refusal::Refusal;
 
-// Modifiers.
+/// What a kind takes, gives and excludes.
+#[derive(Clone, Copy)]
+pub struct KindRow {
+    /// The modifiers that the kind takes.
+    pub modifiers: Modifiers,
+    /// The flags that the kind gives, whatever its modifiers.
+    pub includes: SymbolFlags,
+    /// The flags beside which the kind may not stand, but for what depends on more than the kind.
+    pub excludes: SymbolFlags,
+}
 
-/// `declare`.
-pub const DECLARE: u8 = 1 << 0;
-
-/// An async function or a generator.
-pub const ASYNC: u8 = 1 << 1;
-
-/// A function that is the body of an `if`.
-pub const IF_BODY: u8 = 1 << 2;
-
-/// Parameters that have to be unique, or are not simple.
-pub const UNIQUE: u8 = 1 << 3;
-
-const NO_MODIFIER: u8 = 0;
+const FUNCTION_MODIFIERS: Modifiers = Modifiers(
+    Modifiers::DECLARE.0 | Modifiers::ASYNC.0 | Modifiers::IF_BODY.0,
+);
 
 // Flags beside which a kind may not stand.
 
@@ -70,109 +74,97 @@ const CATCH_PATTERN_FLAGS: SymbolFlags = SymbolFlags(
     SymbolFlags::BLOCK_SCOPED_VARIABLE.0 | SymbolFlags::CATCH_VARIABLE.0,
 );
 
-impl Kind {
-    /// The kind of this number, counted from 1.
-    pub fn from_number(number: u8) -> Option<Kind>
-        ensures { result ≡ kind_of number }
-    {
+/// The kind of this number, counted from 1.
+impl TryFrom<u8> for Kind {
+    type Error = Refusal;
+
+    ghost try_from_gives = { λ number result. result ≡ ok_or (kind_of number) UnknownKind };
+
+    fn try_from(number: u8) -> Result<Kind, Refusal> {
         match number {
-            1 => Some(Kind::Var),
-            2 => Some(Kind::Let),
-            3 => Some(Kind::Const),
-            4 => Some(Kind::Class),
-            5 => Some(Kind::Function),
-            6 => Some(Kind::FunctionExpression),
-            7 => Some(Kind::Parameter),
-            8 => Some(Kind::CatchName),
-            9 => Some(Kind::CatchPattern),
-            10 => Some(Kind::Import),
-            11 => Some(Kind::TypeImport),
-            12 => Some(Kind::TypeAlias),
-            13 => Some(Kind::Interface),
-            14 => Some(Kind::Enum),
-            15 => Some(Kind::ConstEnum),
-            16 => Some(Kind::EnumMember),
-            17 => Some(Kind::TypeParameter),
-            18 => Some(Kind::Infer),
-            _ => None,
+            1 => Ok(Kind::Var),
+            2 => Ok(Kind::Let),
+            3 => Ok(Kind::Const),
+            4 => Ok(Kind::Class),
+            5 => Ok(Kind::Function),
+            6 => Ok(Kind::FunctionExpression),
+            7 => Ok(Kind::Parameter),
+            8 => Ok(Kind::CatchName),
+            9 => Ok(Kind::CatchPattern),
+            10 => Ok(Kind::Import),
+            11 => Ok(Kind::TypeImport),
+            12 => Ok(Kind::TypeAlias),
+            13 => Ok(Kind::Interface),
+            14 => Ok(Kind::Enum),
+            15 => Ok(Kind::ConstEnum),
+            16 => Ok(Kind::EnumMember),
+            17 => Ok(Kind::TypeParameter),
+            18 => Ok(Kind::Infer),
+            _ => Err(Refusal::UnknownKind),
         }
     }
+}
 
-    /// The modifiers that the kind takes.
-    pub fn modifiers(self) -> u8
-        ensures { result ≡ (kind_row (number_of self)).modifiers }
-    {
-        match self {
-            Kind::Var => DECLARE,
-            Kind::Let => DECLARE,
-            Kind::Const => DECLARE,
-            Kind::Class => DECLARE,
-            Kind::Function => DECLARE | ASYNC | IF_BODY,
-            Kind::FunctionExpression => ASYNC,
-            Kind::Parameter => UNIQUE,
-            Kind::CatchName => NO_MODIFIER,
-            Kind::CatchPattern => NO_MODIFIER,
-            Kind::Import => NO_MODIFIER,
-            Kind::TypeImport => NO_MODIFIER,
-            Kind::TypeAlias => DECLARE,
-            Kind::Interface => DECLARE,
-            Kind::Enum => DECLARE,
-            Kind::ConstEnum => DECLARE,
-            Kind::EnumMember => NO_MODIFIER,
-            Kind::TypeParameter => NO_MODIFIER,
-            Kind::Infer => NO_MODIFIER,
-        }
+fn row(modifiers: Modifiers, includes: SymbolFlags, excludes: SymbolFlags) -> KindRow
+    ensures { result ≡ record { modifiers = modifiers; includes = includes; excludes = excludes } }
+{
+    KindRow {
+        modifiers,
+        includes,
+        excludes,
     }
+}
 
-    /// The flags that the kind gives, whatever its modifiers.
-    pub fn own_includes(self) -> SymbolFlags
-        ensures { result.0 ≡ (kind_row (number_of self)).includes }
+impl Kind {
+    pub fn row(self) -> KindRow
+        ensures { plain_row result ≡ kind_row (number_of self) }
     {
         match self {
-            Kind::Var => SymbolFlags::FUNCTION_SCOPED_VARIABLE,
-            Kind::Let => SymbolFlags::BLOCK_SCOPED_VARIABLE,
-            Kind::Const => CONST_FLAGS,
-            Kind::Class => SymbolFlags::CLASS,
-            Kind::Function => SymbolFlags::FUNCTION,
-            Kind::FunctionExpression => FUNCTION_EXPRESSION_FLAGS,
-            Kind::Parameter => SymbolFlags::FUNCTION_SCOPED_VARIABLE,
-            Kind::CatchName => CATCH_NAME_FLAGS,
-            Kind::CatchPattern => CATCH_PATTERN_FLAGS,
-            Kind::Import => SymbolFlags::IMPORT,
-            Kind::TypeImport => SymbolFlags::TYPE_IMPORT,
-            Kind::TypeAlias => SymbolFlags::TYPE_ALIAS,
-            Kind::Interface => SymbolFlags::INTERFACE,
-            Kind::Enum => SymbolFlags::REGULAR_ENUM,
-            Kind::ConstEnum => SymbolFlags::CONST_ENUM,
-            Kind::EnumMember => SymbolFlags::ENUM_MEMBER,
-            Kind::TypeParameter => SymbolFlags::TYPE_PARAMETER,
-            Kind::Infer => SymbolFlags::TYPE_PARAMETER,
-        }
-    }
-
-    /// The flags beside which the kind may not stand, but for what depends on more than the kind.
-    pub fn own_excludes(self) -> SymbolFlags
-        ensures { result.0 ≡ (kind_row (number_of self)).excludes }
-    {
-        match self {
-            Kind::Var => BESIDE_VAR,
-            Kind::Let => SymbolFlags::VALUE,
-            Kind::Const => SymbolFlags::VALUE,
-            Kind::Class => BESIDE_CLASS,
-            Kind::Function => BESIDE_FUNCTION,
-            Kind::FunctionExpression => BESIDE_FUNCTION,
-            Kind::Parameter => BESIDE_VAR,
-            Kind::CatchName => SymbolFlags::NONE,
-            Kind::CatchPattern => SymbolFlags::VALUE,
-            Kind::Import => BESIDE_IMPORT,
-            Kind::TypeImport => BESIDE_IMPORT,
-            Kind::TypeAlias => SymbolFlags::TYPE,
-            Kind::Interface => BESIDE_INTERFACE,
-            Kind::Enum => BESIDE_ENUM,
-            Kind::ConstEnum => BESIDE_CONST_ENUM,
-            Kind::EnumMember => VALUE_OR_TYPE,
-            Kind::TypeParameter => BESIDE_TYPE_PARAMETER,
-            Kind::Infer => BESIDE_TYPE_PARAMETER,
+            Kind::Var => row(
+                Modifiers::DECLARE,
+                SymbolFlags::FUNCTION_SCOPED_VARIABLE,
+                BESIDE_VAR,
+            ),
+            Kind::Let => row(
+                Modifiers::DECLARE,
+                SymbolFlags::BLOCK_SCOPED_VARIABLE,
+                SymbolFlags::VALUE,
+            ),
+            Kind::Const => row(Modifiers::DECLARE, CONST_FLAGS, SymbolFlags::VALUE),
+            Kind::Class => row(Modifiers::DECLARE, SymbolFlags::CLASS, BESIDE_CLASS),
+            Kind::Function => row(FUNCTION_MODIFIERS, SymbolFlags::FUNCTION, BESIDE_FUNCTION),
+            Kind::FunctionExpression => row(
+                Modifiers::ASYNC,
+                FUNCTION_EXPRESSION_FLAGS,
+                BESIDE_FUNCTION,
+            ),
+            Kind::Parameter => row(
+                Modifiers::UNIQUE,
+                SymbolFlags::FUNCTION_SCOPED_VARIABLE,
+                BESIDE_VAR,
+            ),
+            Kind::CatchName => row(Modifiers::NONE, CATCH_NAME_FLAGS, SymbolFlags::NONE),
+            Kind::CatchPattern => row(Modifiers::NONE, CATCH_PATTERN_FLAGS, SymbolFlags::VALUE),
+            Kind::Import => row(Modifiers::NONE, SymbolFlags::IMPORT, BESIDE_IMPORT),
+            Kind::TypeImport => row(Modifiers::NONE, SymbolFlags::TYPE_IMPORT, BESIDE_IMPORT),
+            Kind::TypeAlias => row(
+                Modifiers::DECLARE,
+                SymbolFlags::TYPE_ALIAS,
+                SymbolFlags::TYPE,
+            ),
+            Kind::Interface => row(Modifiers::DECLARE, SymbolFlags::INTERFACE, BESIDE_INTERFACE),
+            Kind::Enum => row(Modifiers::DECLARE, SymbolFlags::REGULAR_ENUM, BESIDE_ENUM),
+            Kind::ConstEnum => row(
+                Modifiers::DECLARE,
+                SymbolFlags::CONST_ENUM,
+                BESIDE_CONST_ENUM,
+            ),
+            Kind::EnumMember => row(Modifiers::NONE, SymbolFlags::ENUM_MEMBER, VALUE_OR_TYPE),
+            Kind::TypeParameter | Kind::Infer => row(
+                Modifiers::NONE,
+                SymbolFlags::TYPE_PARAMETER,
+                BESIDE_TYPE_PARAMETER,
+            ),
         }
     }
 }

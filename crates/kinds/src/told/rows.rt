@@ -7,6 +7,8 @@ use super::Told;
 use tables::id::{ScopeId, SymbolId};
 use tables::row::{Conflict, Redeclaration, SymbolRow};
 
+// No maker in common: one redeclaration is made of a row, the other of what is told, and neither is longer than a shared one.
+
 /// A symbol's own declaration.
 pub fn first_declaration(symbol: SymbolId, row: SymbolRow) -> Redeclaration
     ensures { result ≡ first_declaration symbol.0 row }

@@ -1,77 +1,60 @@
-ghost use Rattle.std.specs.Prelude.{◌≡◌, [], ◌∷◌, ◌++◌, length, take, IfOk, if◌then◌else◌, nat_lt, slice_index_or, slice_set};
-ghost use Rattle.std.specs.List.{slice_get};
-ghost use Rattle.tables.specs.RowList.{rows};
+ghost use Rattle.std.specs.Prelude.{◌≡◌, ◌<◌, ◌≤◌, [], length, take, IfOk, slice_set};
+ghost use Rattle.tables.specs.Contents.{pushed, push_answer, set_answer};
 
 use super::Rows;
+use crate::refusal::Refusal;
 use std::alloc::{AllocError, Global};
 
 impl<T: Copy, const N: usize> Rows<T, N> {
     pub(crate) fn reserve(heap: Global) -> Result<Rows<T, N>, AllocError>
-        ensures { IfOk result (λ t. rows t ≡ []) }
+        ensures { IfOk result (λ t. t ≡ []) }
     {
         let items = Vec::with_capacity(heap, N)?;
         Ok(Rows { items })
     }
 
-    pub(crate) fn count(&self) -> usize
-        ensures { result ≡ length (rows self.now) }
+    pub(crate) fn as_slice(&self) -> &[T]
+        ensures rows { result.now ≡ self.now }
+        ensures few { length self.now ≤ N }
     {
-        self.items.len()
+        self.items.as_slice()
     }
 
-    pub(crate) fn get(&self, i: usize) -> Option<T>
-        ensures { result ≡ slice_get (rows self.now) i }
+    /// Adds a row, and answers its number; refused with `full` if there is no room.
+    pub(crate) fn push(&mut self, row: T, full: Refusal) -> Result<usize, Refusal>
+        ensures answer { result ≡ push_answer N self.old (λ n. n) full }
+        ensures after { self.new ≡ pushed N self.old row }
+        ensures number { IfOk result (λ n. n < N) }
     {
-        if i < self.items.len() {
-            Some(self.items[i])
-        } else {
-            None
-        }
-    }
-
-    /// The i-th row, or the other where it is absent.
-    pub(crate) fn get_or(&self, i: usize, other: T) -> T
-        ensures { result ≡ slice_index_or (rows self.now) i other }
-    {
-        if i < self.items.len() {
-            self.items[i]
-        } else {
-            other
-        }
-    }
-
-    /// Whether there was room for one row more.
-    pub(crate) fn push(&mut self, row: T) -> bool
-        ensures answer { result ≡ nat_lt (length (rows self.old)) N }
-        ensures after { rows self.new ≡ (if nat_lt (length (rows self.old)) N then rows self.old ++ row ∷ [] else rows self.old) }
-    {
-        if self.items.len() >= N {
-            return false;
+        let number = self.items.len();
+        if number >= N {
+            return Err(full);
         }
         self.items.push_reserved(row);
-        true
+        Ok(number)
     }
 
-    /// Whether the i-th row was there to be written.
-    pub(crate) fn put(&mut self, i: usize, row: T) -> bool
-        ensures answer { result ≡ nat_lt i (length (rows self.old)) }
-        ensures after { rows self.new ≡ slice_set (rows self.old) i row }
+    /// Writes the i-th row, if it is there.
+    pub(crate) fn put(&mut self, i: usize, row: T) -> Result<(), Refusal>
+        ensures answer { result ≡ set_answer self.old i }
+        ensures after { self.new ≡ slice_set self.old i row }
+        ensures few { length self.new ≤ N }
     {
-        if i >= self.items.len() {
-            return false;
-        }
-        self.items[i] = row;
-        true
+        let Some(place) = self.items.get_mut(i) else {
+            return Err(Refusal::Absent);
+        };
+        *place = row;
+        Ok(())
     }
 
     pub(crate) fn clear(&mut self)
-        ensures { rows self.new ≡ [] }
+        ensures { self.new ≡ [] }
     {
         self.items.clear();
     }
 
     pub(crate) fn truncate(&mut self, n: usize)
-        ensures { rows self.new ≡ take n (rows self.old) }
+        ensures { self.new ≡ take n self.old }
     {
         self.items.truncate(n);
     }

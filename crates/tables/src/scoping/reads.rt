@@ -1,15 +1,17 @@
-ghost use Rattle.std.specs.Prelude.{◌≡◌, length, slice_index_or};
+ghost use Rattle.std.specs.Prelude.{◌≡◌, ◌≤◌, length, slice_index_or};
 ghost use Rattle.std.specs.List.{slice_get};
-ghost use Rattle.tables.specs.Contents.{contents, row_answer, declaration_answer, has_redeclaration};
+ghost use Rattle.tables.specs.Contents.{row_answer, declaration_answer, has_redeclaration};
 ghost use Rattle.tables.specs.EmptyRows.{no_scope, no_symbol, no_reference};
+ghost use Rattle.tables.specs.Limits.{most_scopes, most_symbols, most_references, most_redeclarations, most_conflicts};
+ghost use Rattle.tables.specs.Trees.{Tree};
 ghost use Rattle.tables.specs.Reading.{if_there, span_ends, symbol_ends};
 
 use super::Scoping;
-use crate::flags::{ReferenceFlags, ScopeFlags, SymbolFlags};
-use crate::id::{Name, NodeId, ReferenceId, ScopeId, SymbolId};
+use crate::id::{ReferenceId, ScopeId, SymbolId};
 use crate::limits::{
     MOST_CONFLICTS, MOST_HOISTED, MOST_REDECLARATIONS, MOST_SYMBOLS, REDECLARATIONS_AT_ONCE,
 };
+use crate::owned::OwnedRow;
 use crate::refusal::Refusal;
 use crate::row::{
     Conflict, Redeclaration, ReferenceRow, ResolvedReference, RootReference, ScopeRow, SymbolRow,
@@ -17,184 +19,138 @@ use crate::row::{
 };
 use crate::span::Span;
 
-// How an absent row reads where no refusal is asked for.
-pub(crate) const NO_SCOPE: ScopeRow = ScopeRow {
-    parent: None,
-    node: NodeId(0),
-    flags: ScopeFlags(0),
-};
-
-const NO_SYMBOL: SymbolRow = SymbolRow {
-    name: Name(0),
-    start: 0,
-    end: 0,
-    flags: SymbolFlags(0),
-    scope: ScopeId(0),
-    node: NodeId(0),
-};
-
-const NO_REFERENCE: ReferenceRow = ReferenceRow {
-    node: NodeId(0),
-    flags: ReferenceFlags(0),
-    symbol: None,
-};
-
-/// A row that was asked for, or the refusal.
-pub(crate) fn present<T>(row: Option<T>) -> Result<T, Refusal>
-    ensures { result ≡ row_answer row }
+fn row_at<T: Copy>(rows: &[T], number: u32) -> Option<T>
+    ensures { result ≡ slice_get rows.now number }
 {
-    match row {
-        Some(row) => Ok(row),
-        None => Err(Refusal::Absent),
-    }
+    rows.get(number as usize).copied()
 }
 
 impl Scoping {
-    pub fn scope_count(&self) -> usize
-        ensures { result ≡ length (contents self.now).scopes }
+    pub fn scopes(&self) -> &[ScopeRow]
+        ensures rows { result.now ≡ self.now.scopes }
+        ensures few { length self.now.scopes ≤ most_scopes }
+        ensures tree { Tree self.now.scopes }
     {
-        self.scopes.count()
+        self.scopes.as_slice()
     }
 
-    pub fn symbol_count(&self) -> usize
-        ensures { result ≡ length (contents self.now).symbols }
+    pub fn symbols(&self) -> &[SymbolRow]
+        ensures rows { result.now ≡ self.now.symbols }
+        ensures few { length self.now.symbols ≤ most_symbols }
     {
-        self.symbols.count()
+        self.symbols.as_slice()
     }
 
-    pub fn reference_count(&self) -> usize
-        ensures { result ≡ length (contents self.now).references }
+    pub fn references(&self) -> &[ReferenceRow]
+        ensures rows { result.now ≡ self.now.references }
+        ensures few { length self.now.references ≤ most_references }
     {
-        self.references.count()
+        self.references.as_slice()
     }
 
-    pub fn pending_count(&self) -> usize
-        ensures { result ≡ length (contents self.now).pending }
+    /// The pending references, in order.
+    pub fn pending(&self) -> &[UnresolvedReference]
+        ensures rows { result.now ≡ self.now.pending }
+        ensures few { length self.now.pending ≤ most_references }
     {
-        self.pending.count()
+        self.pending.as_slice()
     }
 
-    pub fn resolved_count(&self) -> usize
-        ensures { result ≡ length (contents self.now).resolved }
+    /// The resolved references of all symbols, in order.
+    pub fn resolved(&self) -> &[ResolvedReference]
+        ensures rows { result.now ≡ self.now.resolved }
+        ensures few { length self.now.resolved ≤ most_references }
     {
-        self.resolved.count()
+        self.resolved.as_slice()
     }
 
-    pub fn root_count(&self) -> usize
-        ensures { result ≡ length (contents self.now).root }
+    /// The references of all root unresolved lists, in order.
+    pub fn root(&self) -> &[RootReference]
+        ensures rows { result.now ≡ self.now.root }
+        ensures few { length self.now.root ≤ most_references }
     {
-        self.root.count()
+        self.root.as_slice()
     }
 
-    pub fn redeclaration_count(&self) -> usize
-        ensures { result ≡ length (contents self.now).redeclarations }
+    pub fn redeclarations(&self) -> &[Redeclaration]
+        ensures rows { result.now ≡ self.now.redeclarations }
+        ensures few { length self.now.redeclarations ≤ most_redeclarations }
     {
-        self.redeclarations.count()
+        self.redeclarations.as_slice()
     }
 
-    pub fn conflict_count(&self) -> usize
-        ensures { result ≡ length (contents self.now).conflicts }
+    pub fn conflicts(&self) -> &[Conflict]
+        ensures rows { result.now ≡ self.now.conflicts }
+        ensures few { length self.now.conflicts ≤ most_conflicts }
     {
-        self.conflicts.count()
+        self.conflicts.as_slice()
     }
 
     pub fn scope(&self, id: ScopeId) -> Result<ScopeRow, Refusal>
-        ensures { result ≡ row_answer (slice_get (contents self.now).scopes id.0) }
+        ensures { result ≡ row_answer (slice_get self.now.scopes id.0) }
     {
-        present(self.scopes.get(id.0 as usize))
+        row_at(self.scopes(), id.0).ok_or(Refusal::Absent)
     }
 
     pub fn symbol(&self, id: SymbolId) -> Result<SymbolRow, Refusal>
-        ensures { result ≡ row_answer (slice_get (contents self.now).symbols id.0) }
+        ensures { result ≡ row_answer (slice_get self.now.symbols id.0) }
     {
-        present(self.symbols.get(id.0 as usize))
+        row_at(self.symbols(), id.0).ok_or(Refusal::Absent)
+    }
+
+    pub fn reference(&self, id: ReferenceId) -> Result<ReferenceRow, Refusal>
+        ensures { result ≡ row_answer (slice_get self.now.references id.0) }
+    {
+        row_at(self.references(), id.0).ok_or(Refusal::Absent)
     }
 
     /// The symbol's span.
     pub fn symbol_span(&self, id: SymbolId) -> Result<Span, Refusal>
-        ensures { span_ends result ≡ if_there (slice_get (contents self.now).symbols id.0) symbol_ends }
+        ensures { span_ends result ≡ if_there (slice_get self.now.symbols id.0) symbol_ends }
     {
         let row = self.symbol(id)?;
-        present(Span::new(row.start, row.end))
+        Span::new(row.start, row.end).ok_or(Refusal::Absent)
     }
 
-    pub fn reference(&self, id: ReferenceId) -> Result<ReferenceRow, Refusal>
-        ensures { result ≡ row_answer (slice_get (contents self.now).references id.0) }
-    {
-        present(self.references.get(id.0 as usize))
-    }
+    // The machine reads an absent row as a default one, so that no call requires that an id is there.
 
-    pub fn pending(&self, k: usize) -> Result<UnresolvedReference, Refusal>
-        ensures { result ≡ row_answer (slice_get (contents self.now).pending k) }
-    {
-        present(self.pending.get(k))
-    }
-
-    pub fn resolved(&self, k: usize) -> Result<ResolvedReference, Refusal>
-        ensures { result ≡ row_answer (slice_get (contents self.now).resolved k) }
-    {
-        present(self.resolved.get(k))
-    }
-
-    pub fn root(&self, k: usize) -> Result<RootReference, Refusal>
-        ensures { result ≡ row_answer (slice_get (contents self.now).root k) }
-    {
-        present(self.root.get(k))
-    }
-
-    pub fn redeclaration(&self, k: usize) -> Result<Redeclaration, Refusal>
-        ensures { result ≡ row_answer (slice_get (contents self.now).redeclarations k) }
-    {
-        present(self.redeclarations.get(k))
-    }
-
-    pub fn conflict(&self, k: usize) -> Result<Conflict, Refusal>
-        ensures { result ≡ row_answer (slice_get (contents self.now).conflicts k) }
-    {
-        present(self.conflicts.get(k))
-    }
-
+    /// The scope, or the default row if it is absent.
     pub fn scope_or_empty(&self, id: ScopeId) -> ScopeRow
-        ensures { result ≡ slice_index_or (contents self.now).scopes id.0 no_scope }
+        ensures row { result ≡ slice_index_or self.now.scopes id.0 no_scope }
+        ensures tree { Tree self.now.scopes }
     {
-        self.scopes.get_or(id.0 as usize, NO_SCOPE)
+        row_at(self.scopes(), id.0).unwrap_or_default()
     }
 
+    /// The symbol, or the default row if it is absent.
     pub fn symbol_or_empty(&self, id: SymbolId) -> SymbolRow
-        ensures { result ≡ slice_index_or (contents self.now).symbols id.0 no_symbol }
+        ensures { result ≡ slice_index_or self.now.symbols id.0 no_symbol }
     {
-        self.symbols.get_or(id.0 as usize, NO_SYMBOL)
+        row_at(self.symbols(), id.0).unwrap_or_default()
     }
 
+    /// The reference, or the default row if it is absent.
     pub fn reference_or_empty(&self, id: ReferenceId) -> ReferenceRow
-        ensures { result ≡ slice_index_or (contents self.now).references id.0 no_reference }
+        ensures { result ≡ slice_index_or self.now.references id.0 no_reference }
     {
-        self.references.get_or(id.0 as usize, NO_REFERENCE)
+        row_at(self.references(), id.0).unwrap_or_default()
     }
 
     /// Whether the symbol was declared more than once.
     pub fn has_redeclaration(&self, symbol: SymbolId) -> bool
-        ensures { result ≡ has_redeclaration symbol.0 (contents self.now).redeclarations }
+        ensures { result ≡ has_redeclaration symbol.0 self.now.redeclarations }
     {
-        for k in 0..self.redeclarations.count() {
-            let Some(redeclaration) = self.redeclarations.get(k) else {
-                unreachable()
-            };
-            if redeclaration.symbol.0 == symbol.0 {
-                return true;
-            }
-        }
-        false
+        self.redeclarations().iter().any(|row| row.is_of(symbol))
     }
 
     /// Whether there is room for a declaration that may write to so many scopes, beside so many hoisted variables.
     pub fn check_declaration(&self, scopes: usize, hoisted: usize) -> Result<(), Refusal>
-        ensures { result ≡ declaration_answer (contents self.now) scopes hoisted }
+        ensures { result ≡ declaration_answer self.now scopes hoisted }
     {
-        if self.symbols.count() >= MOST_SYMBOLS
-            || self.redeclarations.count() > MOST_REDECLARATIONS - REDECLARATIONS_AT_ONCE
+        if self.symbols().len() >= MOST_SYMBOLS
+            || self.redeclarations().len() > MOST_REDECLARATIONS - REDECLARATIONS_AT_ONCE
             || scopes > MOST_CONFLICTS
-            || self.conflicts.count() > MOST_CONFLICTS - scopes
+            || self.conflicts().len() > MOST_CONFLICTS - scopes
             || hoisted > MOST_HOISTED - scopes
         {
             return Err(Refusal::DeclarationsFull);

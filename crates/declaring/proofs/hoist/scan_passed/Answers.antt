@@ -1,92 +1,47 @@
-use Rattle.std.proofs.Common.{sym, refl, ◌∙◌, arith}
-use Rattle.tables.specs.Contents.{contents}
+use Rattle.std.proofs.Common.{◌≡◌, ◌+◌, [], ◌∷◌, length, sym, ap, ◌∙◌, arith}
+use Rattle.std.proofs.lemmas.Grind.{common_steps}
+use Rattle.tables.specs.Contents.{Contents}
+use Rattle.model.specs.Basics.{maybe, scope_number}
+use Rattle.model.specs.Scopes.{passed, is_var, parent_of}
+use Rattle.model.specs.Declaring.{scan}
 use Rattle.kinds.specs.Telling.{plain}
-use Rattle.model.proofs.Walks.{passed_cons}
-use Rattle.declaring.proofs.Scans.{so_far_end, so_far_found, so_far_more, so_far_top, top_room, top_sizes}
+use Rattle.model.proofs.Walks.{passed_here}
+use Rattle.lookup.specs.NamesIn.{names_in}
+use Rattle.declaring.proofs.Scans.{scan_step, scan_past, fits_past, passed_on}
 use Rattle.declaring.proofs.hoist.scan_passed.Goals as goal
+use Rattle.declaring.proofs.hoist.scan_passed.Goals.{in-None-1, in-Some+else-not-is_var}
 
-pub scan-init : goal.scan-init
-scan-init g c = record { same = refl; rest = refl; pairs = refl; symbols = refl; redeclarations = refl; conflicts = c.requires.conflicts }
+pub returns-in-Some-scan_scope-clause-names : goal.returns-in-Some-scan_scope-clause-names
+returns-in-Some-scan_scope-clause-names g c =
+    let t = c.loop-next.names.scoping in
+    let rows = t.scopes in
+    let at = c.in-Some.at.0 in
+    let way = passed_on rows c.is_var.ensures.tree at (sym c.is_var.ensures.var ∙ c.if-not-is_var.true) in
+    let step = scan_step (plain c.args.d) c.args.to.0 at (names_in g.B.PairSet.pairs g.H.PairSet.pairs c.loop-next.names) (maybe (parent_of rows at) [] (passed rows)) in
+    grind (arith, common_steps)
 
-pub declare_symbol_on_scope-requires : goal.declare_symbol_on_scope-requires
-declare_symbol_on_scope-requires g c =
-    let i = c.scan.invariant in
+pub loop-next-preserved : goal.loop-next-preserved
+loop-next-preserved g c =
+    let t = c.scan_scope.new.names.scoping in
+    let rows = t.scopes in
+    let at = c.in-Some.at.0 in
+    let kept = ap (λ (x : Contents). x.scopes) c.in_default.ensures.rest in
+    let way = passed_on rows c.parent-next.ensures.tree at (ap (λ xs. is_var xs at) kept ∙ sym c.is_var.ensures.var ∙ c.if-not-is_var.true) in
+    let left = maybe (scope_number c.parent-next.result) [] (passed rows) in
+    let past = scan_past (plain c.args.d) c.args.to.0 at _ _ c.in_default.ensures.names left in
+    let there : at ∷ left ≡ maybe (scope_number c.loop-next.next) [] (passed c.loop-next.names.scoping.scopes) = grind (arith, common_steps) in
+    let long = ap (λ xs. length xs) there in
     record {
-      symbols = (let a = i.symbols in let b = c.requires.symbols in omega arith);
-      redeclarations = (let a = i.redeclarations in let b = c.requires.redeclarations in omega arith);
-      conflicts = (let a = i.conflicts in omega arith);
-      room = (let a = i.pairs in let b = c.requires.room in omega arith);
+      same = grind (arith, common_steps);
+      rest = c.in_default.ensures.rest ∙ c.loop-next.invariant.rest;
+      fits = fits_past (plain c.args.d) c.args.to.0 at _ _ c.in_default.ensures.names _ (length left + 1) (omega arith) c.loop-next.invariant.fits;
     }
 
-pub scan_scope-requires : goal.scan_scope-requires
-scan_scope-requires g c =
-    let i = c.scan.invariant in
-    record {
-      redeclarations = (let a = i.redeclarations in let b = c.requires.redeclarations in omega arith);
-      conflicts = (let a = i.conflicts in omega arith);
-      room = (let a = i.pairs in let b = c.requires.room in omega arith);
-    }
-
-pub scan-smaller : goal.scan-smaller
-scan-smaller g c = c.scan_scope.new.scoping.tree _ _ (sym c.in-Some-parent.ensures)
-
-pub scan-preserved : goal.scan-preserved
-scan-preserved g c =
-    let t = c.scan.scoping in
-    so_far_more (plain c.args.d) c.args.to.0 (contents c.args.scoping.now) (contents t) (g.B.PairSet.pairs c.args.bindings.now) (g.B.PairSet.pairs c.scan.bindings)
-    (g.H.PairSet.pairs c.args.hoisting.now) c.args.from.0 c.scan.at.0 t.tree c.scan.invariant (contents c.scan_scope.new.scoping) (g.B.PairSet.pairs c.scan_scope.new.bindings)
-    (sym c.is_var.ensures ∙ c.if-is_var.false) c.in_default.ensures.rest c.in_default.ensures.names c.in-Some-parent.above.0 (sym c.in-Some-parent.ensures)
-
-pub returns-then-is_var : goal.returns-then-is_var
-returns-then-is_var g c =
-    let t = c.scan.scoping in
-    record {
-      names = c.declare_symbol_on_scope.ensures.names
-          ∙ so_far_end (plain c.args.d) c.args.to.0 (contents c.args.scoping.now) (contents t) (g.B.PairSet.pairs c.args.bindings.now) (g.B.PairSet.pairs c.scan.bindings)
-          (g.H.PairSet.pairs c.args.hoisting.now) c.args.from.0 c.scan.at.0 t.tree c.scan.invariant (sym c.is_var.ensures ∙ c.if-is_var.true);
-      rest = c.declare_symbol_on_scope.ensures.rest ∙ c.scan.invariant.rest;
-    }
-
-pub declare_symbol_on_scope-requires-in_default-parent : goal.declare_symbol_on_scope-requires-in_default-parent
-declare_symbol_on_scope-requires-in_default-parent g c =
-    let t = c.scan.scoping in
-    let d = plain c.args.d in
-    let to = c.args.to.0 in
-    let c0 = contents c.args.scoping.now in
-    let b0 = g.B.PairSet.pairs c.args.bindings.now in
-    let b1 = g.B.PairSet.pairs c.scan.bindings in
-    let h = g.H.PairSet.pairs c.args.hoisting.now in
-    let c2 = contents c.scan_scope.new.scoping in
-    let b2 = g.B.PairSet.pairs c.scan_scope.new.bindings in
-    let v = sym c.is_var.ensures ∙ c.if-is_var.false in
-    let sizes = top_sizes d to c0 (contents t) b0 b1 h c.args.from.0 c.scan.at.0 t.tree c.scan.invariant c2 b2 v c.in_default.ensures.rest c.in_default.ensures.names in
-    let few = top_room d to c0 (contents t) b0 b1 h c.args.from.0 c.scan.at.0 t.tree c.scan.invariant c2 b2 v c.in_default.ensures.rest c.in_default.ensures.names (sym c.in_default-parent.ensures) in
-    record {
-      symbols = (let x = sizes.0 in let y = c.requires.symbols in omega arith);
-      redeclarations = (let x = sizes.1.0 in let y = c.requires.redeclarations in omega arith);
-      conflicts = few;
-      room = (let x = sizes.1.1 in let y = c.requires.room in omega arith);
-    }
-
-pub returns-in_default-parent : goal.returns-in_default-parent
-returns-in_default-parent g c =
-    let t = c.scan.scoping in
-    record {
-      names = c.declare_symbol_on_scope-in_default-parent.ensures.names
-          ∙ so_far_top (plain c.args.d) c.args.to.0 (contents c.args.scoping.now) (contents t) (g.B.PairSet.pairs c.args.bindings.now) (g.B.PairSet.pairs c.scan.bindings)
-          (g.H.PairSet.pairs c.args.hoisting.now) c.args.from.0 c.scan.at.0 t.tree c.scan.invariant (contents c.scan_scope.new.scoping) (g.B.PairSet.pairs c.scan_scope.new.bindings)
-          (sym c.is_var.ensures ∙ c.if-is_var.false) c.in_default.ensures.rest c.in_default.ensures.names (sym c.in_default-parent.ensures);
-      rest = c.declare_symbol_on_scope-in_default-parent.ensures.rest ∙ c.in_default.ensures.rest ∙ c.scan.invariant.rest;
-    }
-
-pub returns : goal.returns
-returns g c =
-    let t = c.scan.scoping in
-    let v = sym c.is_var.ensures ∙ c.if-is_var.false in
-    let way = passed_cons (contents t).scopes t.tree c.scan.at.0 v in
-    record {
-      names = so_far_found (plain c.args.d) c.args.to.0 (contents c.args.scoping.now) (contents t) (g.B.PairSet.pairs c.args.bindings.now) (g.B.PairSet.pairs c.scan.bindings)
-          (g.H.PairSet.pairs c.args.hoisting.now) c.args.from.0 c.scan.at.0 t.tree c.scan.invariant (contents c.scan_scope.new.scoping) (g.B.PairSet.pairs c.scan_scope.new.bindings)
-          v c.in-Some.ensures.rest c.in-Some.symbol.0 way.0 way.1 c.in-Some.ensures.names;
-      rest = c.in-Some.ensures.rest ∙ c.scan.invariant.rest;
-    }
+pub returns-clause-names : goal.returns-clause-names
+unfolding scan
+returns-clause-names g c = elim c.match-next.branch [
+  | in-None-1 w ↦ grind (arith, common_steps)
+  | in-Some+else-not-is_var w ↦
+      let here = passed_here c.loop-next.names.scoping.scopes w.is_var.ensures.tree in
+      grind (arith, common_steps, here)
+]

@@ -1,58 +1,44 @@
-use Rattle.std.proofs.Common.{◌≡◌, ◌+◌, ◌%◌, ◌<◌, true, false, cond, eqb, length, get_or, sym, ap, ◌∙◌, subst, arith}
+use Rattle.std.proofs.Common.{◌≡◌, ◌%◌, ◌<◌, true, length, get_or, sym, ap, ◌∙◌, arith}
 use Rattle.std.proofs.lemmas.List.{get_or_read}
 use Rattle.std.proofs.lemmas.Bool.{both_ways}
 use Rattle.hash_store.specs.declared.slot.Slot.TheVariants.{Empty}
 use Rattle.hash_store.specs.Slots.{is_empty, is_full, hash_in, steps}
-use Rattle.hash_store.proofs.Moved.{stopped_unpassed, waits_more, nearer, all_round}
-use Rattle.hash_store.proofs.Ring.{next_below, spot_next}
+use Rattle.hash_store.proofs.Moved.{stopped_unpassed, waits_more, nearer}
+use Rattle.hash_store.proofs.Ring.{spot_below}
 use Rattle.hash_store.proofs.probe.movable.Goals as goal
-use Rattle.hash_store.proofs.probe.movable.Goals.{then-is_full+else-step-distance, else-is_full}
+use Rattle.hash_store.proofs.probe.movable.Goals.{in-Full+else-step-distance, in-Deleted}
 
-pub returns-then-is_empty : goal.returns-then-is_empty
-returns-then-is_empty g c =
+pub returns-in-Empty-clause-nearer : goal.returns-in-Empty-clause-nearer
+returns-in-Empty-clause-nearer g c =
     let xs = c.args.slots.now in
     let x = c.index-slots-at in
-    let inv = c.loop-step.invariant in
-    let read = get_or_read xs c.loop-step.at x.result inv.0 x.is Empty in
-    record {
-      within = tt;
-      full = tt;
-      nearer = stopped_unpassed xs c.args.hole c.requires.within c.loop-step.step c.loop-step.at inv.1 inv.2 (subst (λ z. is_empty z ≡ true) read (sym c.if-is_empty.ensures)) c.requires.settled;
-    }
+    let at = c.behind-at in
+    let within = spot_below (length xs) c.args.hole c.requires.within c.loop-step.step c.loop-step-test.true in
+    let read = get_or_read xs at.result x.result (omega (arith, within, at.ensures)) x.is Empty in
+    stopped_unpassed xs c.args.hole c.requires.within c.loop-step.step at.result at.ensures c.loop-step.invariant (ap is_empty (sym read ∙ c.in-Empty.is)) c.requires.settled
 
-pub returns-then-step-distance : goal.returns-then-step-distance
-returns-then-step-distance g c =
+pub returns-then-step-distance-clause-nearer : goal.returns-then-step-distance-clause-nearer
+returns-then-step-distance-clause-nearer g c =
     let xs = c.args.slots.now in
     let x = c.index-slots-at in
-    let at = c.loop-step.at in
-    let inv = c.loop-step.invariant in
-    let read = get_or_read xs at x.result inv.0 x.is Empty in
-    let far = c.distance.ensures ∙ ap (λ z. steps (length xs) (z % length xs) at) (c.hash.ensures ∙ ap hash_in read) in
-    record {
-      within = inv.0;
-      full = subst (λ z. is_full z ≡ true) read (sym c.if-is_full.ensures);
-      nearer = nearer xs c.args.hole c.requires.within c.loop-step.step at inv.1 inv.2 (omega arith) c.loop-step-test.true inv.0 (omega arith);
-    }
+    let at = c.behind-at in
+    let within = spot_below (length xs) c.args.hole c.requires.within c.loop-step.step c.loop-step-test.true in
+    let l : at.result < length xs = omega (arith, within, at.ensures) in
+    let read = get_or_read xs at.result x.result l x.is Empty in
+    let far = c.distance.ensures ∙ ap (λ z. steps (length xs) (z % length xs) at.result) (ap hash_in (sym c.in-Full.is ∙ read)) in
+    nearer xs c.args.hole c.requires.within c.loop-step.step at.result at.ensures c.loop-step.invariant (omega arith) c.loop-step-test.true l (omega (arith, far, c.if-step-distance.true))
 
 pub loop-step-preserved : goal.loop-step-preserved
 loop-step-preserved g c =
     let xs = c.args.slots.now in
     let x = c.index-slots-at in
-    let at = c.loop-step.at in
+    let at = c.behind-at in
     let step = c.loop-step.step in
-    let inv = c.loop-step.invariant in
-    let next = c.behind-at-in-loop-step.ensures in
-    let read = get_or_read xs at x.result inv.0 x.is Empty in
-    let late : is_full (get_or xs at Empty) ≡ true → steps (length xs) (hash_in (get_or xs at Empty) % length xs) at < step =
-    elim c.if-is_full.branch [
-      | then-is_full+else-step-distance w ↦ λ _. let far = w.distance.ensures ∙ ap (λ z. steps (length xs) (z % length xs) at) (w.hash.ensures ∙ ap hash_in read) in omega arith
-      | else-is_full w ↦ λ f. absurd (both_ways (is_full (get_or xs at Empty)) (subst (λ z. is_full z ≡ false) read (sym w.if-is_full.ensures)) f)
-    ] in (
-      next_below (length xs) at c.behind-at-in-loop-step.result inv.0 next,
-      next ∙ ap (λ z. cond (eqb (z + 1) (length xs)) 0 (z + 1)) inv.1 ∙ spot_next (length xs) c.args.hole c.requires.within step c.loop-step-test.true,
-      waits_more xs c.args.hole c.requires.within step at inv.1 inv.2 late,
-    )
-
-pub returns : goal.returns
-returns g c =
-    record { within = tt; full = tt; nearer = all_round c.args.slots.now c.args.hole c.requires.within c.loop-step.step c.loop-step-test.false c.loop-step.invariant.2 }
+    let within = spot_below (length xs) c.args.hole c.requires.within step c.loop-step-test.true in
+    let read = get_or_read xs at.result x.result (omega (arith, within, at.ensures)) x.is Empty in
+    let late : is_full (get_or xs at.result Empty) ≡ true → steps (length xs) (hash_in (get_or xs at.result Empty) % length xs) at.result < step =
+    elim c.match-slot.branch [
+      | in-Full+else-step-distance w ↦ λ _. let far = w.distance.ensures ∙ ap (λ z. steps (length xs) (z % length xs) at.result) (ap hash_in (sym w.in-Full.is ∙ read)) in omega (arith, far, w.if-step-distance.false)
+      | in-Deleted w ↦ λ f. absurd (both_ways (is_full (get_or xs at.result Empty)) (ap is_full (sym read ∙ w.in-Deleted.is)) f)
+    ] in
+    waits_more xs c.args.hole c.requires.within step at.result at.ensures c.loop-step.invariant late

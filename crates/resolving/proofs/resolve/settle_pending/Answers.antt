@@ -1,45 +1,25 @@
-use Rattle.std.proofs.Common.{length, ap, ◌∙◌, arith}
-use Rattle.tables.specs.Contents.{Contents, contents}
-use Rattle.model.specs.View.{uses_of, beside_uses}
-use Rattle.tables.proofs.RowAnswers.{row_given, row_there}
-use Rattle.resolving.proofs.Resolvings.{resolved_to_none, resolved_to_more, resolved_to_all, counted_so}
+use Rattle.std.proofs.Common.{List, length, sym, ◌∙◌, ap, arith}
+use Rattle.std.specs.List.{slice_get}
+use Rattle.std.proofs.lemmas.Option.{slice_get-get_or}
+use Rattle.tables.specs.Contents.{Contents}
+use Rattle.tables.specs.declared.row.UnresolvedReference.{UnresolvedReference}
+use Rattle.model.specs.View.{uses_of}
+use Rattle.resolving.proofs.Resolvings.{resolved_to_more, resolved_to_all}
 use Rattle.resolving.proofs.resolve.settle_pending.Goals as goal
-
-pub loop-k-init : goal.loop-k-init
-loop-k-init g c = resolved_to_none _ _ _ _ _
-
-pub unreachable-requires : goal.unreachable-requires
-unreachable-requires g c =
-    row_there (contents c.loop-k.scoping).pending c.loop-k.k c.in_default.field-0 (omega (arith, c.loop-k.invariant.long)) c.in_default.ensures
-
-pub settle_entry-next-requires : goal.settle_entry-next-requires
-settle_entry-next-requires g c =
-    let i = c.loop-k.invariant in
-    record { there = omega (arith, i.high, i.long); resolved = omega (arith, i.total); root = omega (arith, i.total); places = omega (arith, i.size) }
 
 pub loop-k-preserved : goal.loop-k-preserved
 loop-k-preserved g c =
-    resolved_to_more _ _ _ _ _ _ _ _ _ _ _ c.loop-k.k c.in-Ok.entry c.fate_of-fate.result c.loop-k.invariant
-    (row_given _ _ c.in-Ok.ensures) c.fate_of-fate.ensures c.settle_entry-next.ensures
+    let i = c.loop-k.invariant in
+    let rows = c.pending.result.now in
+    let there = slice_get-get_or rows c.loop-k.k _ (omega (arith, ap length c.pending.ensures.rows, ap length c.pending-count.ensures.rows, i.0.long)) in (
+      resolved_to_more _ _ _ _ _ _ _ _ _ _ _ _ _ _ c.loop-k.k _ c.fate_of-fate.result i.0 (ap g.B.PairSet.pairs i.1) (ap g.H.PairSet.pairs i.2)
+          (ap (λ (xs : List UnresolvedReference). slice_get xs c.loop-k.k) (sym c.pending.ensures.rows) ∙ there) c.fate_of-fate.ensures c.settle_entry-next.ensures,
+      i.1,
+      i.2,
+    )
 
-pub overflow_sub-result : goal.overflow_sub-result
-overflow_sub-result g c =
-    let cut = ap (λ (t : Contents). length t.resolved) c.cut_pending.ensures in
-    omega (arith, c.loop-k.invariant.resolved)
-
-pub overflow_sub-result-2 : goal.overflow_sub-result-2
-overflow_sub-result-2 g c =
-    let cut = ap (λ (t : Contents). length t.root) c.cut_pending.ensures in
-    omega (arith, c.loop-k.invariant.root)
-
-pub returns : goal.returns
-returns g c =
-    let old = contents c.args.scoping.now in
-    record {
-      answer = counted_so (uses_of old (g.R.PairSet.pairs c.args.roots.now)) (uses_of (contents c.cut_pending.new.self) (g.R.PairSet.pairs c.loop-k.roots)) _ _ _ _ _
-          c.resolved_count.ensures c.resolved_count-resolved.ensures c.root_count.ensures c.root_count-root.ensures c.pending_count.ensures;
-      after = λ h.
-          ap (λ (t : Contents). uses_of t (g.R.PairSet.pairs c.loop-k.roots)) c.cut_pending.ensures ∙
-          resolved_to_all _ _ _ _ _ _ _ _ c.loop-k.k c.loop-k.invariant (omega arith) h;
-      rest = ap beside_uses c.cut_pending.ensures ∙ c.loop-k.invariant.rest;
-    }
+pub returns-clause-after : goal.returns-clause-after
+returns-clause-after g c =
+    let n = ap length c.pending-count.ensures.rows in
+    ap (λ (t : Contents). uses_of t (g.R.PairSet.pairs c.loop-k.roots)) c.cut_pending.ensures ∙
+    resolved_to_all _ _ _ _ _ _ _ _ _ c.loop-k.k c.loop-k.invariant.0 (omega arith)

@@ -6,7 +6,7 @@ use Rattle.store_demo.proofs.exercise.exercise.Goals as goal
 
 pub returns : goal.returns
 returns g c =
-    let same = g.K.Key.same in
+    let same = g.K.PartialEq.eq in
     let pairs = g.S.PairSet.pairs in
     let capacity = g.S.PairSet.capacity in
     let kept = c.args.kept in

@@ -1,17 +1,16 @@
-use Rattle.std.proofs.Common.{arith}
-use Rattle.std.proofs.lemmas.List.{at_drop_more, at_drop_all}
+use Rattle.std.proofs.Common.{◌≡◌, ◌&&◌, ℕ, List, [], ◌∷◌, refl, ap, arith, rules, tests}
+use Rattle.std.specs.List.{list_all}
 use Rattle.std.proofs.lemmas.Bool.Decides.{nat_tests}
-use Rattle.zone_text.specs.Numbers.{all_digits}
+use Rattle.std.proofs.lemmas.Iterator.{YieldsList-from_slice}
+use Rattle.std.proofs.lemmas.Iterator.Search.{all_from_yields_List}
+use Rattle.zone_text.specs.Numbers.{is_digit, all_digits}
 use Rattle.zone_text.proofs.number.is_number.Goals as goal
 
-pub returns-then-not-is_digit : goal.returns-then-not-is_digit
-returns-then-not-is_digit c =
-    let r = at_drop_more all_digits c.args.word.now c.loop-byte.byte-index 0 (omega arith) in grind (arith, nat_tests)
+all_is : (bs : List ℕ) → list_all is_digit bs ≡ all_digits bs
+all_is [] = refl
+all_is (b ∷ bs) = ap (λ r. is_digit b && r) (all_is bs)
 
-pub loop-byte-preserved : goal.loop-byte-preserved
-loop-byte-preserved c =
-    let r = at_drop_more all_digits c.args.word.now c.loop-byte.byte-index 0 (omega arith) in grind (arith, nat_tests)
-
-pub returns : goal.returns
-returns c =
-    let r = at_drop_all all_digits c.args.word.now c.loop-byte.byte-index (omega arith) in grind (arith, nat_tests)
+pub returns-then-not-is_empty : goal.returns-then-not-is_empty
+returns-then-not-is_empty c =
+    let all : c.all.result ≡ list_all is_digit c.args.word.now = all_from_yields_List is_digit _ _ c.all.result c.all.ensures.ran (YieldsList-from_slice c.args.word.now cc) (λ x b q k. search (rules, tests)) in
+    grind (arith, nat_tests, all_is c.args.word.now)

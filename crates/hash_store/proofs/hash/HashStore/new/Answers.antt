@@ -1,18 +1,15 @@
-use Rattle.std.proofs.Common.{sym, refl, arith}
-use Rattle.hash_store.specs.declared.slot.Slot.TheVariants.{Empty}
-use Rattle.hash_store.proofs.Kept.{all_unfull, unfull_more, taken_none, settled_unfull, unlike_unfull, hashed_unfull}
+use Rattle.std.proofs.Common.{length, sym, arith}
+use Rattle.hash_store.proofs.Kept.{only_empty, taken_none, unfull_filled, settled_filled, unlike_filled, hashed_unfull}
 use Rattle.hash_store.proofs.hash.HashStore.new.Goals as goal
-
-pub loop-i-preserved : goal.loop-i-preserved
-loop-i-preserved g c = unfull_more c.loop-i.slots c.loop-i.i Empty (omega arith) refl c.loop-i.invariant
 
 pub invariant_of-result : goal.invariant_of-result
 invariant_of-result g c =
-    let xs = c.loop-i.slots in
-    let none = all_unfull xs (λ j h. c.loop-i.invariant j (omega arith)) in
-    record { enough = omega arith; counted = sym (taken_none xs (λ j _. none j)); settled = settled_unfull xs none; different = unlike_unfull xs none }
+    let xs = c.fill.new.self in
+    let n = length c.args.places.lent.now in
+    let filled = c.fill.ensures.after (only_empty _ (λ z. z) (λ _ _ _ z. z)) in
+    let size = c.fill.ensures.len in
+    let enough = c.args.places.enough in
+    record { enough = omega (arith, size, enough); counted = sym (taken_none xs (λ j _. unfull_filled xs n filled j)); settled = settled_filled xs n filled; different = unlike_filled xs n filled g.K.PartialEq.eq }
 
-pub returns : goal.returns
-returns g c =
-    let xs = c.loop-i.slots in
-    record { empty = hashed_unfull xs (all_unfull xs (λ j h. c.loop-i.invariant j (omega arith))) g.K.Key.same g.K.Key.hash; places = omega arith }
+pub returns-clause-empty : goal.returns-clause-empty
+returns-clause-empty g c = hashed_unfull c.fill.new.self (unfull_filled c.fill.new.self (length c.args.places.lent.now) (c.fill.ensures.after (only_empty _ (λ z. z) (λ _ _ _ z. z)))) g.K.PartialEq.eq g.K.Key.hash

@@ -7,8 +7,3 @@ abbrev pub invariant-loop-i : goal.invariant-loop-i
 invariant-loop-i g l =
     (length l.self.slots.now ≡ length l.initial.self.slots.now)
     × ((k : ℕ) → k < l.i → is_full (get_or l.self.slots.now k Empty) ≡ false)
-
-abbrev pub invariant-loop-at : goal.invariant-loop-at
-invariant-loop-at g l =
-    (length l.self.slots.now ≡ length l.initial.self.slots.now)
-    × (l.self.count ≡ 0)

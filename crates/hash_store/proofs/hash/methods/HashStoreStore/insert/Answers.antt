@@ -16,34 +16,36 @@ invariant_of-self g c =
     let i = c.in-Some.i in
     let k = c.args.key in
     let t = c.in-Some.ensures in
-    let e = g.K.Key.same in
+    let e = g.K.PartialEq.eq in
     let hash = g.K.Key.hash in
     let m = g.met.K.Key in
+    let laws = g.met.K.Eq.laws in
     let h = c.hash_number-hash in
     let y = Full k h.result c.args.number in
     let size = length-set xs i y in
-    let still = taken_same xs i y t.within (matches_full e (hash k) k (get_or xs i Empty) t.place) in record { enough = omega arith; counted = omega arith; settled = settled_again e hash m.reflexive m.symmetric m.transitive m.hashes k h.result c.args.number xs i h.ensures t.within t.place s.settled; different = unlike_new e hash m.reflexive m.symmetric m.transitive m.hashes k h.result c.args.number xs i h.ensures t.within (only e hash m.exact k xs i s.different t.place) s.different }
+    let still = taken_same xs i y t.within (matches_full e (hash k) k (get_or xs i Empty) t.place) in record { enough = omega arith; counted = omega arith; settled = settled_again e hash laws m.hashes k h.result c.args.number xs i h.ensures t.within t.place s.settled; different = unlike_new e hash laws m.hashes k h.result c.args.number xs i h.ensures t.within (only e hash laws k xs i s.different t.place) s.different }
 
 pub overflow_add-self : goal.overflow_add-self
 overflow_add-self g c =
     let s = c.args.self.now in
     let t = c.in-Some-room.ensures in
-    omega (arith, taken_room s.slots.now c.in-Some-room.i t.within t.free)
+    omega (arith, taken_room s.slots.now c.in-Some-room.free t.within t.free)
 
-pub invariant_of-self-in-Some-room : goal.invariant_of-self-in-Some-room
-invariant_of-self-in-Some-room g c =
+pub invariant_of-self-in_default : goal.invariant_of-self-in_default
+invariant_of-self-in_default g c =
     let s = c.args.self.now in
     let xs = s.slots.now in
-    let i = c.in-Some-room.i in
+    let i = c.in-Some-room.free in
     let k = c.args.key in
     let t = c.in-Some-room.ensures in
-    let e = g.K.Key.same in
+    let e = g.K.PartialEq.eq in
     let hash = g.K.Key.hash in
     let m = g.met.K.Key in
+    let laws = g.met.K.Eq.laws in
     let h = c.hash_number-hash in
     let y = Full k h.result c.args.number in
     let size = length-set xs i y in
-    let more = taken_more xs i y t.within t.free refl in record { enough = omega arith; counted = omega arith; settled = settled_new e hash m.reflexive m.symmetric m.transitive m.hashes k h.result c.args.number xs i t.within t.way s.settled; different = unlike_new e hash m.reflexive m.symmetric m.transitive m.hashes k h.result c.args.number xs i h.ensures t.within (λ j _. c.in-None.ensures.place j) s.different }
+    let more = taken_more xs i y t.within t.free refl in record { enough = omega arith; counted = omega arith; settled = settled_new e hash laws m.hashes k h.result c.args.number xs i t.within t.way s.settled; different = unlike_new e hash laws m.hashes k h.result c.args.number xs i h.ensures t.within (λ j _. c.in_default.ensures.place j) s.different }
 
 pub returns-in-Some : goal.returns-in-Some
 returns-in-Some g c =
@@ -52,14 +54,15 @@ returns-in-Some g c =
     let i = c.in-Some.i in
     let k = c.args.key in
     let t = c.in-Some.ensures in
-    let e = g.K.Key.same in
+    let e = g.K.PartialEq.eq in
     let hash = g.K.Key.hash in
     let m = g.met.K.Key in
+    let laws = g.met.K.Eq.laws in
     let h = c.hash_number-hash in
-    let f : full (hashed e hash s.count xs) (length xs) k ≡ false = ap (λ o. not (is_some o) && eqb s.count (length xs)) (held_here e hash k xs i t.place (only e hash m.exact k xs i s.different t.place)) in
+    let f : full (hashed e hash s.count xs) (length xs) k ≡ false = ap (λ o. not (is_some o) && eqb s.count (length xs)) (held_here e hash k xs i t.place (only e hash laws k xs i s.different t.place)) in
     record {
       answer = ap (λ b. cond b (Err StoreFull) (Ok tt)) (sym f);
-      after = put_again e hash m.reflexive m.symmetric m.transitive m.hashes m.exact k h.result c.args.number s.count xs i h.ensures t.within s.different t.place
+      after = put_again e hash laws m.hashes k h.result c.args.number s.count xs i h.ensures t.within s.different t.place
           ∙ ap (λ b. cond b (hashed e hash s.count xs) (put e (hashed e hash s.count xs) k c.args.number)) (sym f);
       places = length-set xs i (Full k h.result c.args.number);
     }
@@ -68,32 +71,33 @@ pub returns-in-Some-room : goal.returns-in-Some-room
 returns-in-Some-room g c =
     let s = c.args.self.now in
     let xs = s.slots.now in
-    let i = c.in-Some-room.i in
+    let i = c.in-Some-room.free in
     let k = c.args.key in
     let t = c.in-Some-room.ensures in
-    let none = c.in-None.ensures.place in
-    let e = g.K.Key.same in
+    let none = c.in_default.ensures.place in
+    let e = g.K.PartialEq.eq in
     let hash = g.K.Key.hash in
     let m = g.met.K.Key in
+    let laws = g.met.K.Eq.laws in
     let h = c.hash_number-hash in
     let room = taken_room xs i t.within t.free in
     let f : full (hashed e hash s.count xs) (length xs) k ≡ false = ap (λ o. not (is_some o) && eqb s.count (length xs)) (held_none e hash k xs none) ∙ ne_eqb s.count (length xs) (λ z. omega arith) in
     record {
       answer = ap (λ b. cond b (Err StoreFull) (Ok tt)) (sym f);
-      after = put_new e hash m.reflexive m.symmetric m.transitive m.hashes m.exact k h.result c.args.number s.count xs i h.ensures t.within none t.free
+      after = put_new e hash laws m.hashes k h.result c.args.number s.count xs i h.ensures t.within none t.free
           ∙ ap (λ b. cond b (hashed e hash s.count xs) (put e (hashed e hash s.count xs) k c.args.number)) (sym f);
       places = length-set xs i (Full k h.result c.args.number);
     }
 
-pub returns-in-None-room : goal.returns-in-None-room
-returns-in-None-room g c =
+pub returns-in_default-room : goal.returns-in_default-room
+returns-in_default-room g c =
     let s = c.args.self.now in
     let xs = s.slots.now in
     let k = c.args.key in
-    let e = g.K.Key.same in
+    let e = g.K.PartialEq.eq in
     let hash = g.K.Key.hash in
-    let every = taken_all xs c.in-None-room.ensures.way in
-    let f : full (hashed e hash s.count xs) (length xs) k ≡ true = ap (λ o. not (is_some o) && eqb s.count (length xs)) (held_none e hash k xs c.in-None.ensures.place) ∙ eq-eqb s.count (length xs) (omega arith) in
+    let every = taken_all xs c.in_default-room.ensures.way in
+    let f : full (hashed e hash s.count xs) (length xs) k ≡ true = ap (λ o. not (is_some o) && eqb s.count (length xs)) (held_none e hash k xs c.in_default.ensures.place) ∙ eq-eqb s.count (length xs) (omega arith) in
     record {
       answer = ap (λ b. cond b (Err StoreFull) (Ok tt)) (sym f);
       after = ap (λ b. cond b (hashed e hash s.count xs) (put e (hashed e hash s.count xs) k c.args.number)) (sym f);

@@ -1,0 +1,8 @@
+use Rattle.std.proofs.Common.{rules, ap, ◌∙◌}
+use Rattle.std.specs.List.{slice_get}
+use Rattle.tables.specs.EmptyRows.{no_symbol}
+use Rattle.tables.proofs.RowAnswers.{row_or}
+use Rattle.tables.proofs.scoping.Scoping.symbol_or_empty.Goals as goal
+
+pub returns : goal.returns
+returns c = row_or _ c.args.id.0 c.row_at.result _ _ no_symbol (c.row_at.ensures ∙ ap (λ xs. slice_get xs c.args.id.0) c.symbols.ensures.rows) (λ p. search rules) c.unwrap_or_default.ensures
