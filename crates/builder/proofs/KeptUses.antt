@@ -2,20 +2,20 @@
 -- and that every pending entry is of a reference that is there.
 use Rattle.std.proofs.Common.{◌≡◌, ℕ, zero, suc, ◌+◌, ◌<◌, List, [], ◌∷◌, ◌++◌, length, take, drop, Some, sym, refl, ap, ◌∙◌, subst, arith, length-append}
 use Rattle.std.specs.List.{slice_get}
-use Rattle.std.proofs.lemmas.List.{length_push, take-append-drop}
-use Rattle.tables.proofs.Nths.{nth_below, nth_push_at, nth_push_below}
+use Rattle.std.proofs.lemmas.List.{length_push, get_or_append_left, get_or_push, take-append-drop}
+use Rattle.std.proofs.lemmas.Option.{slice_get_within, get_or_from_slice_get, slice_get-get_or}
 use Rattle.tables.specs.declared.row.ScopeRow.{ScopeRow}
 use Rattle.tables.specs.declared.row.UnresolvedReference.{UnresolvedReference}
 use Rattle.model.specs.State.{Names, Uses}
 use Rattle.model.specs.Resolving.{Fate as ModelFate, resolve_to, list_at_root, stay, deferred, keep_pending, settle, settle_all, resolve_here, resolve_end}
-use Rattle.resolving.proofs.Resolvings.{entries, grown}
+use Rattle.model.proofs.Growth.{entries, grown}
 
 -- each entry is of one of the first n references
 abbrev pub RefersBelow : ℕ → List UnresolvedReference → Type 0
 RefersBelow n ps = (k : ℕ) (e : UnresolvedReference) → slice_get ps k ≡ Some e → e.reference.0 < n
 
 pub waits_push : (n : ℕ) (ps : List UnresolvedReference) (p : UnresolvedReference) → RefersBelow n ps → p.reference.0 < n → RefersBelow n (ps ++ p ∷ [])
-waits_push n ps p h l k e q = grind (arith, h k e, length_push ps p, nth_push_at ps p, nth_push_below ps p k, nth_below (ps ++ p ∷ []) k e q)
+waits_push n ps p h l k e q = grind (arith, h k e, length_push ps p, get_or_from_slice_get (ps ++ p ∷ []) k e e q, slice_get_within (ps ++ p ∷ []) k e q, slice_get-get_or ps k e, get_or_append_left ps (p ∷ []) e k, get_or_push ps p e k)
 
 waits_take : (n : ℕ) (ps : List UnresolvedReference) (j : ℕ) → RefersBelow n ps → RefersBelow n (take j ps)
 waits_take n [] zero h k e q = h k e q

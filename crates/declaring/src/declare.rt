@@ -1,4 +1,5 @@
 //! Declarations on one scope.
+// Each function says what becomes of the names and, apart, that all else is as it was: one word for either.
 ghost use Rattle.std.specs.Prelude.{◌≡◌, ◌+◌, ◌<◌, ◌≤◌, length};
 ghost use Rattle.tables.specs.Limits.{most_symbols, most_redeclarations, most_conflicts};
 ghost use Rattle.stores.specs.Keys.{same_scope_and_name};
@@ -31,16 +32,8 @@ fn found_symbol<B: Store<ScopeAndName>, H: Store<ScopeAndName>>(
 {
     let bound = binding_in(&names.bindings, scope, name);
     let symbol = bound.or_else(|| binding_in(&names.hoisting, scope, name))?;
-    if names
-        .scoping
-        .symbol_or_empty(symbol)
-        .flags
-        .intersects(SymbolFlags::FUNCTION_EXPRESSION)
-    {
-        None
-    } else {
-        Some(symbol)
-    }
+    let flags = names.scoping.symbol_or_empty(symbol).flags;
+    (!flags.intersects(SymbolFlags::FUNCTION_EXPRESSION)).then_some(symbol)
 }
 
 /// Writes a conflict if the symbol has a flag that the declaration excludes.

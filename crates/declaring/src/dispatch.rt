@@ -54,6 +54,7 @@ pub fn declare_by_manner<B: Store<ScopeAndName>, H: Store<ScopeAndName>>(
 pub fn reach_of(scoping: &Scoping, current: ScopeId, declaration: Checked) -> usize
     ensures { result ≡ reach_of declaration scoping.now.scopes current.0 }
 {
+    // One kind walks; no other reaches beyond its scope.
     match declaration.kind {
         Kind::Var => passed_count(scoping, current) + 1,
         _ => 1,

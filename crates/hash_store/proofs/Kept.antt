@@ -6,8 +6,9 @@ use Rattle.std.proofs.lemmas.Bool.{both_ways, cases_eq, cases_order, cases_Bool,
 use Rattle.hash_store.specs.declared.slot.Slot.{Slot}
 use Rattle.hash_store.specs.declared.slot.Slot.TheVariants.{Empty, Deleted, Full}
 use Rattle.stores.specs.Pairs.{no_pairs, put, drop_pair}
+use Rattle.stores.proofs.Rooms.{same_pairs}
 use Rattle.hash_store.specs.Slots.{is_empty, is_full, matches, number_in, hash_in, held_by, taken, taken_within, spot, steps, Settled, Alike, Unlike, hashed}
-use Rattle.hash_store.proofs.Slotted.{matches_full, matches_hash, unfull}
+use Rattle.hash_store.proofs.Slotted.{full_unempty, matches_full, matches_hash, unfull}
 
 -- ---- how many slots are full
 
@@ -210,12 +211,7 @@ module _ {K : Type 0} (e : K → K → Bool) (hash : K → ℕ) where
         (λ t _ w. subst (λ z. is_empty (get_or xs (spot (length xs) (z % length xs) t) Empty) ≡ false) same (old i t (matches_full e (hash k) k (get_or xs i Empty) m, subst (λ z. t < steps (length xs) (z % length xs) i) (sym same) w))) old
 
     pub settled_new : (k : K) (h v : ℕ) (xs : List (Slot K)) (i : ℕ) → i < length xs → ((t : ℕ) → t < steps (length xs) (h % length xs) i → is_full (get_or xs (spot (length xs) (h % length xs) t) Empty) ≡ true) → Settled xs → Settled (set xs i (Full k h v))
-    settled_new k h v xs i l way old = settled_set xs i (Full k h v) l refl (λ t _ w. not_empty (get_or xs (spot (length xs) (h % length xs) t) Empty) (way t w)) old
-      where
-        not_empty : (x : Slot K) → is_full x ≡ true → is_empty x ≡ false
-        not_empty Empty f = sym f
-        not_empty Deleted f = refl
-        not_empty (Full l g n) f = refl
+    settled_new k h v xs i l way old = settled_set xs i (Full k h v) l refl (λ t _ w. full_unempty (get_or xs (spot (length xs) (h % length xs) t) Empty) (way t w)) old
 
     pub unlike_new : (k : K) (h v : ℕ) (xs : List (Slot K)) (i : ℕ) → h ≡ hash k → i < length xs → ((j : ℕ) → j ≢ i → matches e (hash k) k (get_or xs j Empty) ≡ false) → Unlike e xs → Unlike e (set xs i (Full k h v))
     unlike_new k h v xs i is l others old = unlike_set xs i (Full k h v) l e laws (λ j n a. both_ways (matches e (hash k) k (get_or xs j Empty)) (others j n) (met (get_or xs j Empty) a)) old
@@ -229,28 +225,22 @@ module _ {K : Type 0} (e : K → K → Bool) (hash : K → ℕ) where
       pub put_again : Unlike e xs → matches e (hash k) k (get_or xs i Empty) ≡ true → hashed e hash n (set xs i (Full k h v)) ≡ put e (hashed e hash n xs) k v
       put_again unlike m =
           let others = only laws k xs i unlike m in
-          let get : (q : K) → held_by e hash (set xs i (Full k h v)) q ≡ cond (e q k) (Some v) (held_by e hash xs q) = λ q. ap (λ z. held_by e hash (set xs i (Full k z v)) q) is ∙ held_put k v xs i in' others (λ p f. other_key laws k p (get_or xs i Empty) m f) q in
-          let size : n ≡ cond (is_some (held_by e hash xs k)) n (suc n) = ap (λ o. cond (is_some o) n (suc n)) (sym (held_here k xs i m others)) in
-          λ s. record { get = λ q. get q s; size = size s }
+          same_pairs (λ q. ap (λ z. held_by e hash (set xs i (Full k z v)) q) is ∙ held_put k v xs i in' others (λ p f. other_key laws k p (get_or xs i Empty) m f) q)
+          (ap (λ o. cond (is_some o) n (suc n)) (sym (held_here k xs i m others)))
 
       pub put_new : ((j : ℕ) → matches e (hash k) k (get_or xs j Empty) ≡ false) → is_full (get_or xs i Empty) ≡ false → hashed e hash (n + 1) (set xs i (Full k h v)) ≡ put e (hashed e hash n xs) k v
       put_new none free =
-          let get : (q : K) → held_by e hash (set xs i (Full k h v)) q ≡ cond (e q k) (Some v) (held_by e hash xs q) = λ q. ap (λ z. held_by e hash (set xs i (Full k z v)) q) is ∙ held_put k v xs i in' (λ j _. none j) (λ p _. unfull e (hash p) p (get_or xs i Empty) free) q in
-          let size : n + 1 ≡ cond (is_some (held_by e hash xs k)) n (suc n) = add-one n ∙ ap (λ o. cond (is_some o) n (suc n)) (sym (held_none k xs none)) in
-          λ s. record { get = λ q. get q s; size = size s }
+          same_pairs (λ q. ap (λ z. held_by e hash (set xs i (Full k z v)) q) is ∙ held_put k v xs i in' (λ j _. none j) (λ p _. unfull e (hash p) p (get_or xs i Empty) free) q)
+          (add-one n ∙ ap (λ o. cond (is_some o) n (suc n)) (sym (held_none k xs none)))
 
     pub drop_held : (k : K) (n : ℕ) (xs : List (Slot K)) (i : ℕ) → i < length xs → Unlike e xs → matches e (hash k) k (get_or xs i Empty) ≡ true → hashed e hash (n - 1) (set xs i Deleted) ≡ drop_pair e (hashed e hash n xs) k
     drop_held k n xs i l unlike m =
         let others = only laws k xs i unlike m in
-        let get : (q : K) → held_by e hash (set xs i Deleted) q ≡ cond (e q k) None (held_by e hash xs q) = λ q. held_drop k xs i l others (λ p f. other_key laws k p (get_or xs i Empty) m f) q in
-        let size : n - 1 ≡ cond (is_some (held_by e hash xs k)) (pred n) n = sub-one n ∙ ap (λ o. cond (is_some o) (pred n) n) (sym (held_here k xs i m others)) in
-        λ s. record { get = λ q. get q s; size = size s }
+        same_pairs (held_drop k xs i l others (λ p f. other_key laws k p (get_or xs i Empty) m f)) (sub-one n ∙ ap (λ o. cond (is_some o) (pred n) n) (sym (held_here k xs i m others)))
 
     pub drop_none : (k : K) (n : ℕ) (xs : List (Slot K)) → ((j : ℕ) → matches e (hash k) k (get_or xs j Empty) ≡ false) → hashed e hash n xs ≡ drop_pair e (hashed e hash n xs) k
     drop_none k n xs none =
-        let get : (q : K) → held_by e hash xs q ≡ cond (e q k) None (held_by e hash xs q) = held_same k xs none in
-        let size : n ≡ cond (is_some (held_by e hash xs k)) (pred n) n = ap (λ o. cond (is_some o) (pred n) n) (sym (held_none k xs none)) in
-        λ s. record { get = λ q. get q s; size = size s }
+        same_pairs (held_same k xs none) (ap (λ o. cond (is_some o) (pred n) n) (sym (held_none k xs none)))
 
 -- a clone of an empty slot is empty
 pub only_empty : {K : Type 0} (IsClone : Slot K → Type 0) → (IsClone Deleted → ⊥) → ((k : K) (h n : ℕ) → IsClone (Full k h n) → ⊥) → (y : Slot K) → IsClone y → y ≡ Empty
@@ -261,14 +251,8 @@ only_empty IsClone deleted full (Full k h n) is = absurd (full k h n is)
 -- ---- slots of which none is full
 
 module _ {K : Type 0} (xs : List (Slot K)) where
-  pub unfull_taken : taken xs ≡ 0 → (j : ℕ) → is_full (get_or xs j Empty) ≡ false
-  unfull_taken z j = elim (cases_Bool (is_full (get_or xs j Empty))) [ inr f ↦ f | inl t ↦ let r = taken_some xs j t in absurd (omega arith) ]
-
   pub hashed_unfull : ((j : ℕ) → is_full (get_or xs j Empty) ≡ false) → (e : K → K → Bool) (hash : K → ℕ) → hashed e hash 0 xs ≡ no_pairs
-  hashed_unfull none e hash = λ s. record { get = λ q. held_none e hash q xs (λ j. unfull e (hash q) q (get_or xs j Empty) (none j)) s; size = 0 }
-
-  pub unfull_more : (i : ℕ) (y : Slot K) → i < length xs → is_full y ≡ false → ((j : ℕ) → j < i → is_full (get_or xs j Empty) ≡ false) → (j : ℕ) → j < i + 1 → is_full (get_or (set xs i y) j Empty) ≡ false
-  unfull_more i y l f before j h = at_set xs i y l (λ _ z. is_full z ≡ false) f j (λ n. before j (omega arith))
+  hashed_unfull none e hash = same_pairs (λ q. held_none e hash q xs (λ j. unfull e (hash q) q (get_or xs j Empty) (none j))) refl
 
   module _ (n : ℕ) (is : xs ≡ replicate n Empty) where
     all_empty : (j : ℕ) → get_or xs j Empty ≡ Empty

@@ -1,4 +1,5 @@
 mod Kept
 mod Moved
 mod Ring
+mod Searches
 mod Slotted

@@ -7,8 +7,9 @@ use Rattle.std.proofs.lemmas.Bool.{both_ways, cases_eq, cases_Bool, cases_order}
 use Rattle.hash_store.specs.declared.slot.Slot.{Slot}
 use Rattle.hash_store.specs.declared.slot.Slot.TheVariants.{Empty, Deleted, Full}
 use Rattle.hash_store.specs.Slots.{is_empty, is_full, matches, number_in, hash_in, held_by, taken, spot, steps, Settled, Alike, Unlike, Unpassed, Nearer, hashed}
+use Rattle.stores.proofs.Rooms.{same_pairs}
 use Rattle.hash_store.proofs.Ring.{steps_below, spot_steps, steps_spot, spot_spot, steps_past, steps_parts}
-use Rattle.hash_store.proofs.Slotted.{full_within, empty_unfull, unfull}
+use Rattle.hash_store.proofs.Slotted.{full_within, empty_unfull, full_unempty, unfull}
 use Rattle.hash_store.proofs.Kept.{alike_sym, at_set, settled_set, settled_deleted, unlike_set, unlike_deleted, taken_less, taken_more, held_here, held_set, only}
 
 -- each pair whose way leads past the hole is at least so many places behind it
@@ -114,14 +115,9 @@ module _ {K : Type 0} (xs ys : List (Slot K)) (at hole : ℕ) (at_in : at < leng
   pub moved_settled : Nearer xs hole at → Settled xs → Settled ys
   moved_settled near settled =
       subst Settled (sym is_moved)
-      (settled_set left hole x hole_left (full_some x is)
+      (settled_set left hole x hole_left (full_unempty x is)
       (λ t _ h. subst (λ m. t < steps m (hash_in x % m) hole → is_empty (get_or left (spot m (hash_in x % m) t) Empty) ≡ false) (sym (length-set xs at Deleted)) (way t) h) (settled_deleted xs at at_in settled))
     where
-      full_some : (z : Slot K) → is_full z ≡ true → is_empty z ≡ false
-      full_some Empty f = sym f
-      full_some Deleted f = refl
-      full_some (Full k g n) f = refl
-
       way : (t : ℕ) → t < steps (length xs) (hash_in x % length xs) hole → is_empty (get_or left (spot (length xs) (hash_in x % length xs) t) Empty) ≡ false
       way t h = at_set xs at Deleted at_in (λ _ z. is_empty z ≡ false) refl (spot (length xs) (hash_in x % length xs) t) (λ _. settled at t (is, omega arith))
 
@@ -179,7 +175,7 @@ module _ {K : Type 0} (xs ys : List (Slot K)) (at hole : ℕ) (at_in : at < leng
         ]
 
     pub moved_hashed : (hash : K → ℕ) (n : ℕ) → hashed e hash n ys ≡ hashed e hash n xs
-    moved_hashed hash n = λ s. record { get = λ q. (ap (λ l. held_by e hash l q) is_moved ∙ moved_held hash q) s; size = n }
+    moved_hashed hash n = same_pairs (λ q. ap (λ l. held_by e hash l q) is_moved ∙ moved_held hash q) refl
 
 -- ---- the last hole is emptied
 
@@ -196,4 +192,4 @@ module _ {K : Type 0} (xs : List (Slot K)) (hole : ℕ) (in' : hole < length xs)
       ]))
 
   pub emptied_hashed : (e : K → K → Bool) (hash : K → ℕ) (n : ℕ) → is_full (get_or xs hole Empty) ≡ false → hashed e hash n (set xs hole Empty) ≡ hashed e hash n xs
-  emptied_hashed e hash n free = λ s. record { get = λ q. held_set e hash q xs hole Empty refl (unfull e (hash q) q (get_or xs hole Empty) free) s; size = n }
+  emptied_hashed e hash n free = same_pairs (λ q. held_set e hash q xs hole Empty refl (unfull e (hash q) q (get_or xs hole Empty) free)) refl

@@ -1,5 +1,5 @@
 -- What a write to a slot does to the pairs that the slots stand for.
-use Rattle.std.proofs.Common.{◌≡◌, ℕ, zero, suc, ◌+◌, ◌%◌, ◌<◌, Bool, true, false, eqb, List, [], ◌∷◌, length, get_or, sym, refl, ap, ◌∙◌, subst, inl, inr, arith, below_more}
+use Rattle.std.proofs.Common.{◌≡◌, ℕ, zero, suc, ◌%◌, ◌<◌, Bool, true, false, eqb, List, [], ◌∷◌, length, get_or, sym, refl, ap, ◌∙◌, subst, inl, inr, arith}
 use Rattle.std.proofs.lemmas.Bool.{both_ways, cases_eq, cases_lt, cases_Bool, and_parts, eqb-true}
 use Rattle.hash_store.specs.declared.slot.Slot.{Slot}
 use Rattle.hash_store.specs.declared.slot.Slot.TheVariants.{Empty, Deleted, Full}
@@ -16,6 +16,11 @@ pub empty_unfull : {K : Type 0} (x : Slot K) → is_empty x ≡ true → is_full
 empty_unfull Empty y = refl
 empty_unfull Deleted y = refl
 empty_unfull (Full k m n) y = sym y
+
+pub full_unempty : {K : Type 0} (x : Slot K) → is_full x ≡ true → is_empty x ≡ false
+full_unempty Empty f = sym f
+full_unempty Deleted f = refl
+full_unempty (Full k m n) f = refl
 
 -- a search that has gone all the way round has met every slot
 pub went_round : {K : Type 0} (xs : List (Slot K)) (P : Slot K → Type 0) (home : ℕ) → home < length xs → ((s : ℕ) → s < length xs → P (get_or xs (spot (length xs) home s) Empty)) → (j : ℕ) → j < length xs → P (get_or xs j Empty)
@@ -64,9 +69,3 @@ module _ {K : Type 0} (e : K → K → Bool) where
   pub past_end : (xs : List (Slot K)) (g : ℕ) (q : K) → ((j : ℕ) → j < length xs → matches e g q (get_or xs j Empty) ≡ false) → (j : ℕ) → matches e g q (get_or xs j Empty) ≡ false
   past_end xs g q all j =
       elim (cases_Bool (matches e g q (get_or xs j Empty))) [ inr f ↦ f | inl m ↦ all j (full_within xs j (matches_full g q (get_or xs j Empty) m)) ]
-
--- one more step of a search round the ring
-pub step_more : {K : Type 0} (P : Slot K → Type 0) (xs : List (Slot K)) (home t at : ℕ) (x : Slot K) → at ≡ spot (length xs) home t → x ≡ get_or xs at Empty → P x
-    → ((s : ℕ) → s < t → P (get_or xs (spot (length xs) home s) Empty))
-    → (s : ℕ) → s < t + 1 → P (get_or xs (spot (length xs) home s) Empty)
-step_more P xs home t at x is read here before = below_more (λ s. P (get_or xs (spot (length xs) home s) Empty)) t before (subst (λ z. P (get_or xs z Empty)) is (subst P read here))

@@ -5,8 +5,9 @@ ghost use Rattle.hash_store.specs.Slots.{is_empty, is_full, matches};
 use stores::key::Key;
 
 /// `Deleted` held a pair a moment ago: a search goes on behind it.
-#[derive(Clone, Copy)]
+#[derive(Clone, Copy, Default)]
 pub enum Slot<K> {
+    #[default]
     Empty,
     Deleted,
     Full { key: K, hash: u32, number: u32 },
@@ -29,13 +30,6 @@ impl<K: Key> Slot<K> {
     pub(crate) fn holds(&self, key: K, hash: u32) -> bool
         ensures { result ≡ matches K.eq hash key self.now }
     {
-        match *self {
-            Slot::Full {
-                key: kept,
-                hash: kept_hash,
-                ..
-            } => hash == kept_hash && key == kept,
-            _ => false,
-        }
+        matches!(*self, Slot::Full { key: kept, hash: kept_hash, .. } if hash == kept_hash && key == kept)
     }
 }

@@ -8,6 +8,7 @@ use crate::told::Told;
 use model::manner::Manner;
 
 /// A declaration tells its name, span, node, includes, excludes and manner: the same each time under one setting and strictness.
+// Two bools and no struct: the setting gives one, the scope the other.
 pub trait Binder {
     /// By whether scripts are TypeScript, and whether the scope is strict.
     ghost tells: { Self → Bool → Bool → PlainTold };

@@ -14,5 +14,3 @@ pub struct Checked {
     pub span: Span,
     pub node: NodeId,
 }
-
-pub use tells::check;

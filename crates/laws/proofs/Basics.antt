@@ -1,10 +1,9 @@
 -- Small facts on options, tests, places and bits.
-use Rattle.std.proofs.Common.{◌≡◌, ℕ, zero, suc, Bool, true, false, eqb, List, [], ◌∷◌, get_or, set, is_some, Some, None, Option, sym, refl, ap, ◌∙◌}
+use Rattle.std.proofs.Common.{◌≡◌, ℕ, zero, suc, true, eqb, List, [], ◌∷◌, get_or, set, is_some, Some, None, Option, sym, refl, ap, ◌∙◌}
 use lib.Bits.{bit_and, bit_or, and_zero_r}
 use Rattle.std.proofs.lemmas.Nat.{and_assoc, and_or_apart}
 use Rattle.std.proofs.lemmas.Bool.{eqb-true, eq-eqb, and_parts, and_from, true≢false}
 use Rattle.tables.specs.Flags.{DirectEval}
-use Rattle.stores.specs.Pairs.{Pairs}
 use Rattle.stores.specs.Keys.{same_scope_and_name}
 use Rattle.model.specs.Basics.{maybe, place}
 
@@ -13,27 +12,13 @@ pub maybe_both : {X Y : Type 0} (o : Option X) (d : Y) (f : X → Y) (P : Y → 
 maybe_both None d f P a b = a refl
 maybe_both (Some x) d f P a b = b x refl
 
-pub bool_cases : (b : Bool) (P : Type 0) → (b ≡ true → P) → (b ≡ false → P) → P
-bool_cases true P a b = a refl
-bool_cases false P a b = b refl
-
 pub option_cases : {X : Type 0} (o : Option X) (P : Type 0) → (o ≡ None → P) → ((x : X) → o ≡ Some x → P) → P
 option_cases None P a b = a refl
 option_cases (Some x) P a b = b x refl
 
-pub none≢some : {X : Type 0} (o : Option X) (x : X) → o ≡ None → o ≡ Some x → ⊥
-none≢some o x p q = cc
-
-pub is_some_from : {X : Type 0} (o : Option X) (x : X) → o ≡ Some x → is_some o ≡ true
-is_some_from o x e = ap is_some e
-
 pub from_is_some : {X : Type 0} (o : Option X) → is_some o ≡ true → (x : X) × (o ≡ Some x)
 from_is_some None e = absurd (true≢false (sym e))
 from_is_some (Some x) e = (x, refl)
-
-pub not_some : {X : Type 0} (o : Option X) → is_some o ≡ false → o ≡ None
-not_some None e = refl
-not_some (Some x) e = absurd (true≢false e)
 
 pub same_true : (a b : ℕ) (c d : ℕ) → same_scope_and_name (place a c) (place b d) ≡ true → (a ≡ b) × (c ≡ d)
 same_true a b c d e = let p = and_parts (eqb a b) (eqb c d) e in (eqb-true a b p.0, eqb-true c d p.1)
@@ -52,7 +37,3 @@ set_keeps g d (x ∷ xs) (suc i) v (suc k) e = set_keeps g d xs i v k e
 -- the flag that a scope is handed by a child leaves a set of other flags as it was
 pub eval_apart : (set : ℕ) → bit_and DirectEval set ≡ 0 → (f g : ℕ) → bit_and (bit_or f (bit_and g DirectEval)) set ≡ bit_and f set
 eval_apart set none f g = and_or_apart set f (bit_and g DirectEval) (and_assoc set g DirectEval ∙ ap (bit_and g) none ∙ and_zero_r g)
-
--- maps that hold the same, and as much, are one
-pub pairs_path : {K : Type 0} (p q : Pairs K) → ((k : K) → p.get k ≡ q.get k) → p.size ≡ q.size → p ≡ q
-pairs_path p q h e = λ i. record { get = λ k. h k i; size = e i }

@@ -1,7 +1,7 @@
 -- The symbol that a declaration comes upon: there is at most one, and the tables say which.
-use Rattle.std.proofs.Common.{◌≡◌, ℕ, zero, suc, ◌<◌, false, ◌⊎◌, List, [], ◌∷◌, Some, None, Option, sym, refl, ap, ◌∙◌, subst, inl, inr, ⊎_elim, not-suc-le-zero, arith}
-use Rattle.std.proofs.lemmas.Option.{same_Some}
-use Rattle.std.proofs.lemmas.Bool.{true≢false, cond-true, cond-false}
+use Rattle.std.proofs.Common.{◌≡◌, ℕ, zero, suc, ◌<◌, false, ◌⊎◌, List, Some, None, Option, sym, refl, ap, ◌∙◌, subst, inl, inr, ⊎_elim, not-suc-le-zero, arith}
+use Rattle.std.proofs.lemmas.Option.{none-some, same_Some}
+use Rattle.std.proofs.lemmas.Bool.{cases_Bool, true≢false, cond-true, cond-false}
 use Rattle.tables.specs.Flags.{meets, TsConditional, FunctionExpression}
 use Rattle.tables.specs.declared.row.ScopeRow.{ScopeRow}
 use Rattle.model.specs.declared.call.Declaration.{Declaration}
@@ -10,7 +10,7 @@ use Rattle.model.specs.State.{Names, Machine, flags_of}
 use Rattle.model.specs.Scopes.{parent_of, flags_in, chain}
 use Rattle.model.specs.Declaring.{binding, hoisted, found, not_expression}
 use Rattle.laws.specs.Conflicts.{LeadsTo, Beside, Nearest, Nowhere, StoppedBy, Reaches, Var, Infer, MadeIn, ComesUpon, ToldApart, by_binding, by_hoisting, itself, above, at_top, nor_above, stopped_here, stopped_above, reached, passes, var_scope, conditional, no_conditional, current_scope, on_the_way, in_scope}
-use Rattle.laws.proofs.Basics.{bool_cases, option_cases, none≢some}
+use Rattle.laws.proofs.Basics.{option_cases}
 use Rattle.model.proofs.Chains.{at_chain_more, at_chain_top}
 use Rattle.laws.proofs.Tree.{Tree}
 
@@ -37,15 +37,15 @@ module _ (nm : Names) (s n : ℕ) where
   unfolding found
   found_beside k e =
       option_cases led (Beside nm s n k)
-      (λ z. absurd (none≢some (found nm s n) k (ap (λ o. maybe o None (not_expression nm)) z) e))
+      (λ z. absurd (none-some k (sym (ap (λ o. maybe o None (not_expression nm)) z) ∙ e)))
       (λ j z. let q : not_expression nm j ≡ Some k = sym (ap (λ o. maybe o None (not_expression nm)) z) ∙ e in
-      bool_cases (meets (flags_of nm j) FunctionExpression) (Beside nm s n k)
-      (λ t. absurd (none≢some (not_expression nm j) k (cond-true (meets (flags_of nm j) FunctionExpression) None (Some j) t) q))
+      ⊎_elim (λ t. absurd (none-some k (sym (cond-true (meets (flags_of nm j) FunctionExpression) None (Some j) t) ∙ q)))
       (λ t. let jk : j ≡ k = same_Some j k (sym (cond-false (meets (flags_of nm j) FunctionExpression) None (Some j) t) ∙ q) in
-      record { leads = leads_from k (z ∙ ap Some jk); no_expression = subst (λ x. meets (flags_of nm x) FunctionExpression ≡ false) jk t }))
+      record { leads = leads_from k (z ∙ ap Some jk); no_expression = subst (λ x. meets (flags_of nm x) FunctionExpression ≡ false) jk t })
+      (cases_Bool (meets (flags_of nm j) FunctionExpression)))
 
   pub none_beside : found nm s n ≡ None → (k : ℕ) → Beside nm s n k → ⊥
-  none_beside e k b = none≢some (found nm s n) k e (beside_found k b)
+  none_beside e k b = none-some k (sym e ∙ beside_found k b)
 
   pub one_beside : (k j : ℕ) → Beside nm s n k → Beside nm s n j → k ≡ j
   one_beside k j b c = same_Some k j (sym (beside_found k b) ∙ beside_found j c)
@@ -81,7 +81,7 @@ module _ (rows : List ScopeRow) (set : ℕ) where
   not_nowhere : (t s : ℕ) → Nearest rows set t s → Nowhere rows set s → ⊥
   not_nowhere t s (itself v) (at_top _ v' e) = true≢false (sym v ∙ v')
   not_nowhere t s (itself v) (nor_above _ p v' e r) = true≢false (sym v ∙ v')
-  not_nowhere t s (above _ p v e r) (at_top _ v' e') = none≢some (parent_of rows s) p e' e
+  not_nowhere t s (above _ p v e r) (at_top _ v' e') = none-some p (sym e' ∙ e)
   not_nowhere t s (above _ p v e r) (nor_above _ p' v' e' r') = not_nowhere t p r (subst (Nowhere rows set) (same_Some p' p (sym e' ∙ e)) r')
 
   module _ (tree : Tree rows) where
@@ -92,18 +92,18 @@ module _ (rows : List ScopeRow) (set : ℕ) where
     first_of_chain other (suc f) s h =
         option_cases (parent_of rows s) (Result s)
         (λ e. subst (λ c. Of c s) (sym (at_chain_top rows tree.lower (λ c. c) s e))
-        (bool_cases (meets (flags_in rows s) set) (Of (s ∷ []) s)
-        (λ v. inl (subst (λ t. Nearest rows set t s) (sym (cond-true (meets (flags_in rows s) set) s other v)) (itself v)))
-        (λ v. inr (at_top s v e, cond-false (meets (flags_in rows s) set) s other v))))
+        (⊎_elim (λ v. inl (subst (λ t. Nearest rows set t s) (sym (cond-true (meets (flags_in rows s) set) s other v)) (itself v)))
+        (λ v. inr (at_top s v e, cond-false (meets (flags_in rows s) set) s other v))
+        (cases_Bool (meets (flags_in rows s) set))))
         (λ p e. let l : p < s = tree.lower s p e in
         subst (λ c. Of c s) (sym (at_chain_more rows tree.lower (λ c. c) s p e))
-        (bool_cases (meets (flags_in rows s) set) (Of (s ∷ chain rows p) s)
-        (λ v. inl (subst (λ t. Nearest rows set t s) (sym (cond-true (meets (flags_in rows s) set) s _ v)) (itself v)))
+        (⊎_elim (λ v. inl (subst (λ t. Nearest rows set t s) (sym (cond-true (meets (flags_in rows s) set) s _ v)) (itself v)))
         (λ v. let up = sym (cond-false (meets (flags_in rows s) set) s (first (λ q. meets (flags_in rows q) set) other (chain rows p)) v) in
         ⊎_elim
         (λ n. inl (subst (λ t. Nearest rows set t s) up (above s p v e n)))
         (λ n. inr (nor_above s p v e n.0, sym up ∙ n.1))
-        (first_of_chain other f p (omega arith)))))
+        (first_of_chain other f p (omega arith)))
+        (cases_Bool (meets (flags_in rows s) set))))
       where
         Of : List ℕ → ℕ → Type 0
         Of c x = (Nearest rows set (first (λ p. meets (flags_in rows p) set) other c) x) ⊎ (Nowhere rows set x × (first (λ p. meets (flags_in rows p) set) other c ≡ other))

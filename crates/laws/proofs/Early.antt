@@ -1,7 +1,7 @@
 -- The law on early errors.
-use Rattle.std.proofs.Common.{◌≡◌, ℕ, suc, ◌<◌, true, false, ◌≢◌, ◌⊎◌, List, [], ◌∷◌, ◌++◌, length, Some, None, sym, refl, ap, ◌∙◌, subst, inl, inr, ⊎_elim, arith}
-use Rattle.std.proofs.lemmas.Option.{same_Some}
-use Rattle.std.proofs.lemmas.Bool.{true≢false}
+use Rattle.std.proofs.Common.{◌≡◌, ℕ, suc, ◌<◌, true, false, ◌≢◌, ◌⊎◌, List, [], ◌∷◌, ◌++◌, length, Some, None, sym, refl, ap, ◌∙◌, subst, inl, inr, ⊎_elim, is_some, arith}
+use Rattle.std.proofs.lemmas.Option.{none-some, same_Some}
+use Rattle.std.proofs.lemmas.Bool.{cases_Bool, true≢false}
 use Rattle.tables.specs.Flags.{meets}
 use Rattle.tables.specs.declared.row.ScopeRow.{ScopeRow}
 use Rattle.tables.specs.declared.row.Conflict.{Conflict}
@@ -13,7 +13,7 @@ use Rattle.model.specs.Declaring.{Declared, binding, complain, add_symbol_redecl
 use Rattle.model.specs.Calls.{told, bound}
 use Rattle.laws.specs.Conflicts.{by_binding, by_hoisting, NoValue, Reaches, reached, passes, Var}
 use Rattle.laws.specs.EarlyErrors.{Granted, OnWay, start, onward, IsLexical, Lexical, VarThrough, OneOf, EarlyError, OfFour}
-use Rattle.laws.proofs.Basics.{bool_cases, option_cases, none≢some, is_some_from}
+use Rattle.laws.proofs.Basics.{option_cases}
 use Rattle.laws.proofs.Sound.{Sound, Binds, found_cases, make_binds, move_stays}
 use Rattle.laws.proofs.Runs.{Good}
 use Rattle.laws.proofs.ComesUpon.{beside_found, found_beside}
@@ -76,12 +76,12 @@ module _ (rows : List ScopeRow) (nm : Names) (ds : List Granted) (h : Sound rows
 
   bound_found : (s n : ℕ) → Binds nm s n → found nm s n ≡ None → ⊥
   bound_found s n b e =
-      none≢some (found nm s n) b.0 e (beside_found nm s n b.0 (record { leads = by_binding b.1; no_expression = plain_no_expression (flags_of nm b.0) (c.base.plain b.0 (h.leads s n b.0 b.1).there) }))
+      none-some b.0 (sym e ∙ beside_found nm s n b.0 (record { leads = by_binding b.1; no_expression = plain_no_expression (flags_of nm b.0) (c.base.plain b.0 (h.leads s n b.0 b.1).there) }))
 
   hoisted_found : (s n : ℕ) → Hoists nm s n → found nm s n ≡ None → ⊥
   hoisted_found s n b e =
       option_cases (binding nm s n) ⊥
-      (λ z. none≢some (found nm s n) b.0 e (beside_found nm s n b.0 (record { leads = by_hoisting z b.1; no_expression = plain_no_expression (flags_of nm b.0) (c.base.plain b.0 (g s n b.0 b.1)) })))
+      (λ z. none-some b.0 (sym e ∙ beside_found nm s n b.0 (record { leads = by_hoisting z b.1; no_expression = plain_no_expression (flags_of nm b.0) (c.base.plain b.0 (g s n b.0 b.1)) })))
       (λ k z. bound_found s n (k, z) e)
 
   free_lexical : (s n : ℕ) → found nm s n ≡ None → OneOf (Lexical s n) ds → ⊥
@@ -175,9 +175,9 @@ module _ (m : Machine) (d : Declaration) (good : Good m) (g : Ranged m.names) (d
 
     lexical_clash : (k : ℕ) → found nm here n ≡ Some k → EarlyError more here n
     lexical_clash k e =
-        bool_cases (meets (flags_of nm k) Lex) (EarlyError more here n)
-        (λ lex. inl (two_last (Lexical here n) ds x (found_lexical rows nm ds good.sound g c here n k e lex) (lexical, refl, refl)))
+        ⊎_elim (λ lex. inl (two_last (Lexical here n) ds x (found_lexical rows nm ds good.sound g c here n k e lex) (lexical, refl, refl)))
         (λ lex. inr (one_last (Lexical here n) ds x (lexical, refl, refl), one_keep (VarThrough here n) ds (x ∷ []) (found_var rows nm ds good.sound g c here n k e lex)))
+        (cases_Bool (meets (flags_of nm k) Lex))
 
     pub lexical_step : Early rows (declare_symbol_on_scope (told m d) nm here).names more
     lexical_step =
@@ -264,8 +264,7 @@ module _ (m : Machine) (d : Declaration) (good : Good m) (g : Ranged m.names) (d
         let plain = found_plain rows nm ds good.sound g c p n k e in
         let a = noted (told m d) nm k in
         let moved_on = move_binding a p t n k in
-        bool_cases (meets (flags_of nm k) Lex) (Early rows (hoist_all moved_on ps n k) more)
-        (λ lex. inr (
+        ⊎_elim (λ lex. inr (
           (λ z. snoc_not_nil nm.conflicts _ (sym ((hoist_all_alike ps moved_on n k k).conflicts ∙ (move_alike a p t n k).conflicts ∙ (again_noted (told m d) nm k).clashes (excludes_lex k plain ∙ lex)) ∙ z)),
           (p, n, var_clash p (stop_way rows nm n p k here s) (found_lexical rows nm ds good.sound g c p n k e lex)),
         ))
@@ -273,9 +272,10 @@ module _ (m : Machine) (d : Declaration) (good : Good m) (g : Ranged m.names) (d
         (clear_after a k (noted_base rows more (told m d) nm k (excludes_lex k plain ∙ lex) (more_base rows nm ds (x ∷ []) c.base))
         (λ y n' b. b) (λ y n' b. b) (stop_binds p k s lex) lex
         (stop_free rows nm ds good.sound g c n p k here s lex))))
+        (cases_Bool (meets (flags_of nm k) Lex))
       where
         stays : (p k : ℕ) → Binds nm t n → move_binding (noted (told m d) nm k) p t n k ≡ noted (told m d) nm k
-        stays p k b = move_stays rows good.tree (noted (told m d) nm k) p t n k (is_some_from (binding nm t n) b.0 b.1)
+        stays p k b = move_stays rows good.tree (noted (told m d) nm k) p t n k (ap is_some b.1)
 
     reached_step : Reaches rows nm n t here → Early rows (hoisted_out rows here n (declare_symbol_on_scope (told m d) nm t)).names more
     unfolding declare_shadow_symbol unite add_symbol_redeclaration complain
@@ -292,8 +292,7 @@ module _ (m : Machine) (d : Declaration) (good : Good m) (g : Ranged m.names) (d
         let lies = found_there rows nm good.sound g t n k e in
         let a = unite (told m d) (noted (told m d) nm k) k in
         subst Result (sym (on_scope_some m d t k e))
-        (bool_cases (meets (flags_of nm k) Lex) (Early rows (hoist_all a ps n k) more)
-        (λ lex. inr (
+        (⊎_elim (λ lex. inr (
           (λ z. snoc_not_nil nm.conflicts _ (sym ((hoist_all_alike ps a n k k).conflicts ∙ (again_united (told m d) nm k lies).clashes (excludes_lex k plain ∙ lex)) ∙ z)),
           (t, n, var_clash t t_way (found_lexical rows nm ds good.sound g c t n k e lex)),
         ))
@@ -301,7 +300,8 @@ module _ (m : Machine) (d : Declaration) (good : Good m) (g : Ranged m.names) (d
         let b = more_base rows nm ds (x ∷ []) c.base in
         inl (clear_after a k (united_base rows more (told m d) nm k lies mild var_flags.0 var_flags.1 b)
         (λ s n' q. q) (λ s n' q. q) (bound_at_t k e) (united_lexes rows more (told m d) nm k lies mild var_flags.0 var_flags.1 b lex)
-        (reach_free rows nm ds good.sound g c n t here r (λ o. c.no_error t n (inr (o, found_var rows nm ds good.sound g c t n k e lex))))))))
+        (reach_free rows nm ds good.sound g c n t here r (λ o. c.no_error t n (inr (o, found_var rows nm ds good.sound g c t n k e lex))))))
+        (cases_Bool (meets (flags_of nm k) Lex))))
       where
         Result : Declared → Type 0
         Result y = Early rows (hoisted_out rows here n y).names more

@@ -1,7 +1,8 @@
 -- The law on early errors, over runs.
-use Rattle.std.proofs.Common.{◌≡◌, ℕ, false, not, eqb, ◌≢◌, List, [], ◌∷◌, ◌++◌, None, sym, refl, ap, ◌∙◌, subst, inl, inr, ⊎_elim, append_assoc, append-nil, not-suc-le-zero, arith}
-use Rattle.std.proofs.lemmas.Bool.{cond-true, cond-false}
+use Rattle.std.proofs.Common.{◌≡◌, ℕ, false, not, eqb, ◌≢◌, List, [], ◌∷◌, ◌++◌, sym, refl, ap, ◌∙◌, subst, inl, inr, ⊎_elim, append_assoc, append-nil, not-suc-le-zero, arith}
+use Rattle.std.proofs.lemmas.Bool.{cases_Bool, cond-true, cond-false}
 use Rattle.std.specs.List.{AllByRecursion}
+use Rattle.std.proofs.lemmas.Option.{none-some}
 use Rattle.tables.specs.Flags.{meets, VarScope}
 use Rattle.tables.specs.declared.row.ScopeRow.{ScopeRow}
 use Rattle.model.specs.declared.call.Call.{Call}
@@ -13,7 +14,7 @@ use Rattle.model.specs.Declaring.{Told}
 use Rattle.model.specs.Calls.{bound, granted, after, answer, run, child, handed, parent_here}
 use Rattle.laws.specs.Conflicts.{Again, Outcome, stopped, united, made, was_granted, is_bind}
 use Rattle.laws.specs.EarlyErrors.{Granted, granted_by, declarations, OfFour, EarlyErrors}
-use Rattle.laws.proofs.Basics.{bool_cases, none≢some, eval_apart}
+use Rattle.laws.proofs.Basics.{eval_apart}
 use Rattle.laws.proofs.Tree.{Tree, Kept, kept_push, kept_set}
 use Rattle.laws.proofs.Runs.{Good, fresh_good, after_good}
 use Rattle.laws.proofs.Forms.{form, Ranged, after_ranged, fresh_ranged}
@@ -65,9 +66,9 @@ early_kept rows rows' nm ds tree kept e =
 
 again_grows : (d : Told) (old new : Names) (k f : ℕ) → Again d old new k f → old.conflicts ≢ [] → new.conflicts ≢ []
 again_grows d old new k f a some none =
-    bool_cases (meets (flags_of old k) d.excludes) ⊥
-    (λ e. snoc_not_nil old.conflicts _ (sym (a.clashes e) ∙ none))
+    ⊎_elim (λ e. snoc_not_nil old.conflicts _ (sym (a.clashes e) ∙ none))
     (λ e. some (sym (a.agrees e) ∙ none))
+    (cases_Bool (meets (flags_of old k) d.excludes))
 
 outcome_grows : (m : Machine) (d : Declaration) (new : Names) → Outcome m d new → m.names.conflicts ≢ [] → new.conflicts ≢ []
 outcome_grows m d new (stopped k v s a) some = again_grows _ m.names new k _ a some
@@ -80,8 +81,7 @@ bind_early : (m : Machine) (d : Declaration) (ds : List Granted) → Good m → 
     → Early (after m (Bind d)).scopes (after m (Bind d)).names (ds ++ granted_by m (Bind d))
 unfolding granted
 bind_early m d ds good g four e =
-    bool_cases (was_granted (answer m (Bind d))) (Early (after m (Bind d)).scopes (after m (Bind d)).names (ds ++ granted_by m (Bind d)))
-    (λ yes.
+    ⊎_elim (λ yes.
     let it = cond-true (was_granted (answer m (Bind d))) (x ∷ []) [] yes in
     let four' : AllByRecursion OfFour (x ∷ []) = subst (AllByRecursion OfFour) it four in
     subst (λ ys. Early (after m (Bind d)).scopes (after m (Bind d)).names (ds ++ ys)) (sym it)
@@ -96,6 +96,7 @@ bind_early m d ds good g four e =
     (λ no_grant.
     subst (λ ys. Early (after m (Bind d)).scopes (after m (Bind d)).names (ds ++ ys)) (sym (cond-false (was_granted (answer m (Bind d))) (x ∷ []) [] no_grant))
     (subst (λ (y : Machine). Early y.scopes y.names (ds ++ [])) (sym (after_refused m (Bind d) no_grant)) (subst (Early m.scopes m.names) (sym (append-nil ds)) e)))
+    (cases_Bool (was_granted (answer m (Bind d))))
   where
     x : Granted
     x = record { kind = d.kind; name = d.name.0; scope = m.current; scopes = m.scopes }
@@ -136,7 +137,7 @@ run_early (c ∷ cs) m ds good g four e =
 fresh_early : (setting : ℕ) → Early (fresh setting).scopes (fresh setting).names []
 fresh_early setting =
     inl (record {
-      base = record { quiet = refl; plain = λ k l. absurd (not-suc-le-zero l); bindings = λ s n k e. absurd (none≢some None k refl e); hoists = λ s n k e. absurd (none≢some None k refl e) };
+      base = record { quiet = refl; plain = λ k l. absurd (not-suc-le-zero l); bindings = λ s n k e. absurd (none-some k e); hoists = λ s n k e. absurd (none-some k e) };
       no_error = λ s n e. ⊎_elim (λ t. t) (λ b. b.0) e;
       lexicals = λ s n o. absurd o;
       vars = λ s n o. absurd o;

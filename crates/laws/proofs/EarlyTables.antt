@@ -4,7 +4,7 @@ use Rattle.std.proofs.lemmas.Option.{same_Some}
 use lib.Bits.{bit_or}
 use lib.ListN.{get_or-append}
 use lib.Seq.{get_or-append_seam}
-use Rattle.std.proofs.lemmas.Bool.{cases_lt, cases_eq, cond-true, cond-false}
+use Rattle.std.proofs.lemmas.Bool.{cases_Bool, cases_lt, cases_eq, cond-true, cond-false}
 use Rattle.stores.specs.Pairs.{Pairs, put}
 use Rattle.stores.specs.Keys.{same_scope_and_name}
 use Rattle.stores.specs.declared.key.ScopeAndName.{ScopeAndName}
@@ -16,7 +16,7 @@ use Rattle.model.specs.State.{Names, no_symbol, symbol_row, flags_of}
 use Rattle.model.specs.Scopes.{is_var}
 use Rattle.model.specs.Declaring.{Told, binding, hoisted, complain, add_symbol_redeclaration, unite, declare_shadow_symbol, with_hoisted, hoist_all, with_flags}
 use Rattle.laws.specs.EarlyErrors.{Granted, Lexical, VarThrough, OneOf}
-use Rattle.laws.proofs.Basics.{bool_cases, same_true, same_refl}
+use Rattle.laws.proofs.Basics.{same_true, same_refl}
 use Rattle.laws.proofs.Sound.{Sound, Binds}
 use Rattle.laws.proofs.Written.{noted, again_noted}
 use Rattle.laws.proofs.Forms.{Ranged}
@@ -51,9 +51,9 @@ module _ (rows : List ScopeRow) (ds : List Granted) where
     pub make_keeps : (s n : ℕ) → Binds nm s n → Binds (declare_shadow_symbol d nm scope).names s n
     unfolding declare_shadow_symbol
     make_keeps s n b =
-        bool_cases (same_scope_and_name (place s n) (place scope d.name)) (Binds (declare_shadow_symbol d nm scope).names s n)
-        (λ t. (length nm.symbols, cond-true (same_scope_and_name (place s n) (place scope d.name)) _ _ t))
+        ⊎_elim (λ t. (length nm.symbols, cond-true (same_scope_and_name (place s n) (place scope d.name)) _ _ t))
         (λ t. (b.0, cond-false (same_scope_and_name (place s n) (place scope d.name)) _ _ t ∙ b.1))
+        (cases_Bool (same_scope_and_name (place s n) (place scope d.name)))
 
     pub make_base : Sound rows nm → Ranged nm → Plain d.includes → BoundRight rows ds scope d.name (meets d.includes Lex) → Base rows nm ds → Base rows (declare_shadow_symbol d nm scope).names ds
     unfolding declare_shadow_symbol
@@ -66,15 +66,15 @@ module _ (rows : List ScopeRow) (ds : List Granted) where
               let e : length nm.symbols ≡ k = omega (arith, simp length-append at l) in
               subst (λ j. Plain (flags_of (declare_shadow_symbol d nm scope).names j)) e (subst Plain (sym make_new) p))
               (cases_lt k (length nm.symbols));
-          bindings = λ s n k e. bool_cases (same_scope_and_name (place s n) (place scope d.name)) (BoundRight rows ds s n (meets (flags_of (declare_shadow_symbol d nm scope).names k) Lex))
-              (λ t.
+          bindings = λ s n k e. ⊎_elim (λ t.
               let kk : length nm.symbols ≡ k = same_Some _ _ (sym (cond-true (same_scope_and_name (place s n) (place scope d.name)) _ _ t) ∙ e) in
               let sn = same_true s scope n d.name t in
               subst (λ f. BoundRight rows ds s n (meets f Lex)) (sym make_new ∙ ap (flags_of (declare_shadow_symbol d nm scope).names) kk)
               (subst (λ x. BoundRight rows ds x n (meets d.includes Lex)) (sym sn.0) (subst (λ x. BoundRight rows ds scope x (meets d.includes Lex)) (sym sn.1) fresh)))
               (λ t.
               let old = sym (cond-false (same_scope_and_name (place s n) (place scope d.name)) _ _ t) ∙ e in
-              subst (λ f. BoundRight rows ds s n (meets f Lex)) (sym (make_old k (h.leads s n k old).there)) (b.bindings s n k old));
+              subst (λ f. BoundRight rows ds s n (meets f Lex)) (sym (make_old k (h.leads s n k old).there)) (b.bindings s n k old))
+              (cases_Bool (same_scope_and_name (place s n) (place scope d.name)));
           hoists = λ s n k e. let o = b.hoists s n k e in (ap (λ f. meets f Lex) (make_old k (g s n k e)) ∙ o.0, o.1);
         }
 
@@ -137,18 +137,18 @@ put_cases : (ps : List ℕ) (h : Pairs ScopeAndName) (name k s n j : ℕ) → (p
 put_cases [] h name k s n j e = inr e
 put_cases (p ∷ ps) h name k s n j e =
     ⊎_elim (λ o. inl (o.0, o.1, inr o.2))
-    (λ o. bool_cases (same_scope_and_name (place s n) (place p name)) (((k ≡ j) × (n ≡ name) × OneOf (λ q. q ≡ s) (p ∷ ps)) ⊎ (h.get (place s n) ≡ Some j))
-    (λ t. let sn = same_true s p n name t in inl (same_Some k j (sym (cond-true (same_scope_and_name (place s n) (place p name)) (Some k) _ t) ∙ o), sn.1, inl (sym sn.0)))
-    (λ t. inr (sym (cond-false (same_scope_and_name (place s n) (place p name)) (Some k) _ t) ∙ o)))
+    (λ o. ⊎_elim (λ t. let sn = same_true s p n name t in inl (same_Some k j (sym (cond-true (same_scope_and_name (place s n) (place p name)) (Some k) _ t) ∙ o), sn.1, inl (sym sn.0)))
+    (λ t. inr (sym (cond-false (same_scope_and_name (place s n) (place p name)) (Some k) _ t) ∙ o))
+    (cases_Bool (same_scope_and_name (place s n) (place p name))))
     (put_cases ps (put same_scope_and_name h (place p name) k) name k s n j e)
 
 put_keeps : (ps : List ℕ) (h : Pairs ScopeAndName) (name k s n : ℕ) → (j : ℕ) × (h.get (place s n) ≡ Some j) → (j : ℕ) × ((put_all h ps name k).get (place s n) ≡ Some j)
 put_keeps [] h name k s n e = e
 put_keeps (p ∷ ps) h name k s n e =
     put_keeps ps (put same_scope_and_name h (place p name) k) name k s n
-    (bool_cases (same_scope_and_name (place s n) (place p name)) ((j : ℕ) × ((put same_scope_and_name h (place p name) k).get (place s n) ≡ Some j))
-    (λ t. (k, cond-true (same_scope_and_name (place s n) (place p name)) (Some k) _ t))
-    (λ t. (e.0, cond-false (same_scope_and_name (place s n) (place p name)) (Some k) _ t ∙ e.1)))
+    (⊎_elim (λ t. (k, cond-true (same_scope_and_name (place s n) (place p name)) (Some k) _ t))
+    (λ t. (e.0, cond-false (same_scope_and_name (place s n) (place p name)) (Some k) _ t ∙ e.1))
+    (cases_Bool (same_scope_and_name (place s n) (place p name))))
 
 put_there : (ps : List ℕ) (h : Pairs ScopeAndName) (name k s : ℕ) → OneOf (λ p. p ≡ s) ps → (j : ℕ) × ((put_all h ps name k).get (place s name) ≡ Some j)
 put_there [] h name k s o = absurd o

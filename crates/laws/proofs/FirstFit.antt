@@ -2,9 +2,10 @@
 use Rattle.std.proofs.Common.{◌≡◌, ℕ, suc, cond, not, ◌&&◌, eqb, ltb, ◌⊎◌, List, [], ◌∷◌, length, take, drop, Some, None, sym, refl, ap, ◌∙◌, subst, inl, inr, ⊎_elim, arith}
 use mathlib.Core.List.{Memᴰ}
 use lib.Seq.{drop-length, take-length}
-use Rattle.std.proofs.lemmas.Bool.{cond_both, true≢false, eqb-true, eq-eqb}
+use Rattle.std.proofs.lemmas.Bool.{cases_Bool, cond_both, true≢false, eqb-true, eq-eqb}
 use Rattle.std.proofs.lemmas.Bool.Decides.{nat_tests}
 use Rattle.std.specs.List.{AllByRecursion}
+use Rattle.std.proofs.lemmas.Option.{none-some}
 use Rattle.tables.specs.declared.refusal.Refusal.TheVariants.{AtRoot, StartPastPending}
 use Rattle.tables.specs.declared.row.ScopeRow.{ScopeRow}
 use Rattle.tables.specs.declared.row.UnresolvedReference.{UnresolvedReference}
@@ -16,7 +17,7 @@ use Rattle.model.specs.Scopes.{parent_of, chain, is_below}
 use Rattle.model.specs.Resolving.{resolve_to, list_at_root, stay, settle_all, keep_pending, search, lookup_chain, chain_up_to, has_ended, fate_here, fate_at_end, resolve_here, resolve_end}
 use Rattle.model.specs.Calls.{refusal, granted, after, answer, run, with_uses}
 use Rattle.laws.specs.FirstFit.{Granted, Below, Settles, FirstFitRight, FirstFit}
-use Rattle.laws.proofs.Basics.{maybe_both, bool_cases, option_cases, none≢some}
+use Rattle.laws.proofs.Basics.{maybe_both, option_cases}
 use Rattle.laws.proofs.Granting.{granted_after, after_keeps, refused_answers, refused_after, refused_by_answer}
 use Rattle.laws.proofs.Runs.{Good, run_good, fresh_good}
 use Rattle.laws.proofs.Searching.{first_from, none_from, part_first, part_ended, part_passed, below_is, below_high}
@@ -47,7 +48,7 @@ is_granted : (m : Machine) (c : Call) → Granted m c → refusal m c ≡ None
 is_granted m c g = option_cases (refusal m c) (refusal m c ≡ None) (λ h. h) (λ r h. absurd (g r (refused_answers m c r h)))
 
 pub granted_is : (m : Machine) (c : Call) → refusal m c ≡ None → Granted m c
-granted_is m c h r e = none≢some (refusal m c) r h (refused_by_answer m c r e)
+granted_is m c h r e = none-some r (sym h ∙ refused_by_answer m c r e)
 
 pub after_granted : (m : Machine) (c : Call) → Granted m c → after m c ≡ granted m c
 after_granted m c g = granted_after m c (is_granted m c g)
@@ -102,10 +103,10 @@ module _ (m : Machine) (good : Good m) (single : KeptSingle m) where
       let Goal : Type 0 = (drop start pending ≡ []) ⊎ ((p : ℕ) × (parent_of rows m.current ≡ Some p)) in
       option_cases (parent_of rows m.current) Goal
       (λ n. let root : m.current ≡ 0 = good.tree.only_root m.current good.here n in
-      bool_cases (eqb start (length pending)) Goal
-      (λ t. inl (ap (λ k. drop k pending) (eqb-true start _ t) ∙ drop-length pending))
-      (λ t. absurd (none≢some (Some AtRoot) AtRoot (sym (ap (λ b. cond (b && not (eqb start (length pending))) (Some AtRoot) (cond (ltb (length pending) start) (Some StartPastPending) None)) (eq-eqb m.current 0 root)
-      ∙ ap (λ b. cond (not b) (Some AtRoot) (cond (ltb (length pending) start) (Some StartPastPending) None)) t) ∙ allowed) refl)))
+      ⊎_elim (λ t. inl (ap (λ k. drop k pending) (eqb-true start _ t) ∙ drop-length pending))
+      (λ t. absurd (none-some AtRoot (sym allowed ∙ ap (λ b. cond (b && not (eqb start (length pending))) (Some AtRoot) (cond (ltb (length pending) start) (Some StartPastPending) None)) (eq-eqb m.current 0 root)
+      ∙ ap (λ b. cond (not b) (Some AtRoot) (cond (ltb (length pending) start) (Some StartPastPending) None)) t)))
+      (cases_Bool (eqb start (length pending))))
       (λ p n. inr (p, n))
 
   abbrev parent : ℕ

@@ -1,7 +1,7 @@
 -- What a declaration comes to, by its kind.
-use Rattle.std.proofs.Common.{◌≡◌, ℕ, suc, ◌+◌, ◌<◌, Bool, false, cond, not, ◌&&◌, eqb, ◌≢◌, List, [], ◌∷◌, length, is_some, Some, None, sym, refl, ap, ◌∙◌, subst, ⊎_elim, arith, length-append, length-set}
-use Rattle.std.proofs.lemmas.Option.{same_Some}
-use Rattle.std.proofs.lemmas.Bool.{cases_eq, eq-eqb, ne_eqb, cond_both, cond-true, cond-false}
+use Rattle.std.proofs.Common.{◌≡◌, ℕ, suc, ◌+◌, ◌<◌, Bool, false, cond, not, ◌&&◌, eqb, ◌≢◌, List, [], ◌∷◌, length, is_some, Some, sym, refl, ap, ◌∙◌, subst, ⊎_elim, arith, length-append, length-set}
+use Rattle.std.proofs.lemmas.Option.{none-some, same_Some}
+use Rattle.std.proofs.lemmas.Bool.{cases_Bool, cases_eq, eq-eqb, ne_eqb, cond_both, cond-true, cond-false}
 use Rattle.std.proofs.lemmas.Bool.Decides.{nat_tests}
 use Rattle.stores.specs.Keys.{same_scope_and_name}
 use Rattle.tables.specs.Flags.{meets, ByValue, FunctionScopedVariable, FunctionSymbol, Import}
@@ -18,7 +18,7 @@ use Rattle.model.specs.Scopes.{is_var, is_strict, target, passed, conditional_sc
 use Rattle.model.specs.Declaring.{Told, Declared, binding, hoisted, complain, add_symbol_redeclaration, unite, found, declare_shadow_symbol, declare_symbol_on_scope, move_binding, relocate, with_hoisted, hoist_all, declare_var, declare_moved_out, declare}
 use Rattle.model.specs.Calls.{told, bound, granted, after, run}
 use Rattle.laws.specs.Conflicts.{Reaches, Var, CatchName, Infer, MovesOut}
-use Rattle.laws.proofs.Basics.{maybe_both, bool_cases, none≢some}
+use Rattle.laws.proofs.Basics.{maybe_both}
 use Rattle.laws.proofs.Granting.{after_keeps}
 use Rattle.laws.proofs.Sound.{Sound, found_cases}
 use Rattle.laws.proofs.Runs.{Good, after_good}
@@ -80,9 +80,9 @@ module _ (m : Machine) (d : Declaration) where
       (λ (c : d.kind ≢ 8). ⊎_elim
       (λ (i : d.kind ≡ 18). form_infer i (ap comes_to (cond-false (eqb d.kind 1) Hoisted _ (ne_eqb d.kind 1 v) ∙ cond-false (eqb d.kind 8) Shadow _ (ne_eqb d.kind 8 c)
       ∙ cond-true (eqb d.kind 18) Conditional _ (eq-eqb d.kind 18 i))))
-      (λ (i : d.kind ≢ 18). bool_cases moves (Form (bound m d))
-      (λ b. let e : its_manner ≡ MovedOut = other_manner v c i ∙ cond-true moves MovedOut Here b in form_moved v c i e (ap comes_to e))
-      (λ b. let e : its_manner ≡ Here = other_manner v c i ∙ cond-false moves MovedOut Here b in form_here v c i (λ o. here_not_out (sym e ∙ o)) (ap comes_to e)))
+      (λ (i : d.kind ≢ 18). ⊎_elim (λ b. let e : its_manner ≡ MovedOut = other_manner v c i ∙ cond-true moves MovedOut Here b in form_moved v c i e (ap comes_to e))
+      (λ b. let e : its_manner ≡ Here = other_manner v c i ∙ cond-false moves MovedOut Here b in form_here v c i (λ o. here_not_out (sym e ∙ o)) (ap comes_to e))
+      (cases_Bool moves))
       (cases_eq d.kind 18))
       (cases_eq d.kind 8))
       (cases_eq d.kind 1)
@@ -100,9 +100,9 @@ found_there rows nm h g s n k e = ⊎_elim (λ b. (h.leads s n k b).there) (λ c
 
 with_hoisted_fine : (nm : Names) (p name k : ℕ) → Ranged nm → k < length nm.symbols → Ranged (with_hoisted nm p name k)
 with_hoisted_fine nm p name k h l s n j e =
-    bool_cases (same_scope_and_name (place s n) (place p name)) (j < length nm.symbols)
-    (λ t. let kj : k ≡ j = same_Some k j (sym (cond-true (same_scope_and_name (place s n) (place p name)) (Some k) _ t) ∙ e) in subst (λ x. x < length nm.symbols) kj l)
+    ⊎_elim (λ t. let kj : k ≡ j = same_Some k j (sym (cond-true (same_scope_and_name (place s n) (place p name)) (Some k) _ t) ∙ e) in subst (λ x. x < length nm.symbols) kj l)
     (λ t. h s n j (sym (cond-false (same_scope_and_name (place s n) (place p name)) (Some k) _ t) ∙ e))
+    (cases_Bool (same_scope_and_name (place s n) (place p name)))
 
 hoist_all_fine : (ps : List ℕ) (nm : Names) (name k : ℕ) → Ranged nm → k < length nm.symbols → Fine (record { names = hoist_all nm ps name k; symbol = k })
 unfolding hoist_all
@@ -175,4 +175,4 @@ run_ranged [] m g h = h
 run_ranged (c ∷ cs) m g h = run_ranged cs (after m c) (after_good m c g) (after_ranged m c g h)
 
 pub fresh_ranged : (setting : ℕ) → Ranged (fresh setting).names
-fresh_ranged setting s n k e = absurd (none≢some None k refl e)
+fresh_ranged setting s n k e = absurd (none-some k e)

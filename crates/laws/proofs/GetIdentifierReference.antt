@@ -1,6 +1,7 @@
 -- References to plain values are looked up as by GetIdentifierReference.
 use Rattle.std.proofs.Common.{◌≡◌, ℕ, ◌+◌, ◌<◌, true, false, ◌&&◌, ◌||◌, eqb, ltb, List, [], ◌∷◌, ◌++◌, Some, None, sym, refl, ap, ◌∙◌, subst, inl, inr, ⊎_elim, arith}
 use Rattle.std.proofs.lemmas.Bool.{true≢false, eq-eqb, ne_eqb, cond-true}
+use Rattle.std.proofs.lemmas.Option.{none-some}
 use Rattle.tables.specs.Flags.{meets, ValueUse, ValueAsType, ByValue}
 use Rattle.tables.specs.declared.id.ReferenceId.{ReferenceId}
 use Rattle.tables.specs.declared.refusal.Refusal.TheVariants.{UnknownKind}
@@ -17,7 +18,7 @@ use Rattle.model.specs.Calls.{refusal, granted, after, run, told}
 use Rattle.laws.specs.FirstFit.{◌∈◌, Granted, LooksIn, ResolvedAs, RootListedAs, DeferredAs, flags_now, MeansArguments, NothingAt, FirstServing, serves_here, serves_above, NoneServing, none_last, none_above, PassedUp, passed_last, passed_above}
 use Rattle.laws.specs.GetIdentifierReference.{HasBinding, GetIdentifierReference, unresolvable, has_binding, ask_outer, UnboundUpTo, at_last, on_the_way, PlainValue, LookedUp, GetIdentifierReferenceLaw}
 use Rattle.laws.specs.OnceLaw.{of_pending}
-use Rattle.laws.proofs.Basics.{option_cases, none≢some}
+use Rattle.laws.proofs.Basics.{option_cases}
 use Rattle.laws.proofs.Granting.{after_keeps}
 use Rattle.laws.proofs.Runs.{Good, run_good, fresh_good}
 use Rattle.laws.proofs.Single.{times_there, times_same, KeptSingle, run_single, fresh_single}
@@ -29,7 +30,7 @@ use Rattle.laws.proofs.Valued.{Valued, declare_valued, includes_value}
 kind_known : (m : Machine) (d : Declaration) → refusal m (Bind d) ≡ None → d.kind ≡ 0 → ⊥
 unfolding refusal
 kind_known m d h z =
-    none≢some (refusal m (Bind d)) UnknownKind h (cond-true (eqb d.kind 0 || ltb 18 d.kind) (Some UnknownKind) _ (ap (λ b. b || ltb 18 d.kind) (eq-eqb d.kind 0 z)))
+    none-some UnknownKind (sym h ∙ cond-true (eqb d.kind 0 || ltb 18 d.kind) (Some UnknownKind) _ (ap (λ b. b || ltb 18 d.kind) (eq-eqb d.kind 0 z)))
 
 module _ (name : ℕ) where
   -- the declarations of the name, from m on

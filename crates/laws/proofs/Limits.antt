@@ -1,8 +1,9 @@
 -- No run goes past the limits.
-use Rattle.std.proofs.Common.{◌≡◌, ℕ, ◌+◌, ◌-◌, ◌<◌, ◌≤◌, true, false, cond, not, ◌||◌, eqb, ltb, leb, List, [], ◌∷◌, length, Some, None, Ok, Err, Option, sym, refl, ap, ◌∙◌, subst, arith, length-append}
-use Rattle.std.proofs.lemmas.Bool.{or_parts, ltb-false, leb-false, lt-ltb, le-leb, cond-true}
+use Rattle.std.proofs.Common.{◌≡◌, ℕ, ◌+◌, ◌-◌, ◌<◌, ◌≤◌, true, false, cond, not, ◌||◌, eqb, ltb, leb, List, [], ◌∷◌, length, Some, None, Ok, Err, Option, sym, refl, ap, ◌∙◌, subst, arith, length-append, ⊎_elim}
+use Rattle.std.proofs.lemmas.Bool.{cases_Bool, or_parts, ltb-false, leb-false, lt-ltb, le-leb, cond-true}
 use Rattle.std.proofs.lemmas.Bool.Decides.{nat_tests}
 use Rattle.std.specs.List.{AllByRecursion}
+use Rattle.std.proofs.lemmas.Option.{none-some}
 use Rattle.tables.specs.Flags.{less, all_reference_flags}
 use Rattle.tables.specs.declared.refusal.Refusal.{Refusal}
 use Rattle.tables.specs.declared.refusal.Refusal.TheVariants.{UnlistedBits, UnknownKind, ModifierNotOfKind, SpanReversed, NoSuchScope, DeclarationsFull, ReferencesFull, StoreFull}
@@ -17,7 +18,6 @@ use Rattle.model.specs.State.{Machine, Names, Uses, fresh}
 use Rattle.model.specs.Resolving.{Fate, settle, settle_all, resolve_end, resolve_here}
 use Rattle.model.specs.Calls.{Test, ◌if◌, first_of, most_references, refusal, granted, after, run, told, reach, declarations_full, stores_have_room, answer, granted_answer, builder_refusal, builder_after, builder_answer}
 use Rattle.laws.specs.NeverFull.{NeverFull}
-use Rattle.laws.proofs.Basics.{bool_cases, none≢some}
 use Rattle.laws.proofs.Granting.{after_keeps}
 use Rattle.laws.proofs.Runs.{run_good, fresh_good}
 use Rattle.laws.proofs.Growing.{hoists, declare_grown}
@@ -33,9 +33,9 @@ pub record Limited (m : Machine) : Type 0 where
 -- no test holds of a call that is granted
 none_holds : (ts : List Test) → first_of ts ≡ None → AllByRecursion (λ t. t.holds ≡ false) ts
 none_holds [] e = tt
-none_holds (t ∷ ts) e = bool_cases t.holds (AllByRecursion (λ t. t.holds ≡ false) (t ∷ ts))
-    (λ b. absurd (none≢some _ t.refusal e (cond-true t.holds (Some t.refusal) (first_of ts) b)))
+none_holds (t ∷ ts) e = ⊎_elim (λ b. absurd (none-some t.refusal (sym e ∙ cond-true t.holds (Some t.refusal) (first_of ts) b)))
     (λ b. (b, none_holds ts (sym (ap (λ x. cond x (Some t.refusal) (first_of ts)) b) ∙ e)))
+    (cases_Bool t.holds)
 
 -- a declaration hoists no more than it reaches
 hoists_few : (m : Machine) (d : Declaration) → hoists (told m d) m.scopes m.current (manner_here m d) ≤ reach m d.kind

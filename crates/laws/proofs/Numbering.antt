@@ -1,6 +1,6 @@
 -- The numbers of the root unresolved lists.
 use Rattle.std.proofs.Common.{◌≡◌, ℕ, suc, ◌+◌, ◌<◌, ◌≤◌, cond, eqb, List, [], ◌∷◌, ◌++◌, length, is_some, Some, None, Option, sym, refl, ap, ◌∙◌, subst, inl, inr, ⊎_elim, arith}
-use Rattle.std.proofs.lemmas.Option.{same_Some}
+use Rattle.std.proofs.lemmas.Option.{none-some, same_Some}
 use Rattle.std.proofs.lemmas.Bool.{cases_eq, eq-eqb, ne_eqb, cond-true, cond-false}
 use Rattle.tables.specs.declared.id.Name.{Name}
 use Rattle.tables.specs.declared.id.ReferenceId.{ReferenceId}
@@ -10,7 +10,6 @@ use Rattle.stores.specs.Keys.{same_name}
 use Rattle.model.specs.Basics.{maybe, the_name}
 use Rattle.model.specs.Resolving.{list_number, with_list}
 use Rattle.laws.specs.OnceLaw.{NumberedFrom, NumbersRight}
-use Rattle.laws.proofs.Basics.{none≢some}
 
 abbrev pub listing : ℕ → ReferenceId → RootReference
 listing n r = record { list = n; reference = r }
@@ -56,7 +55,7 @@ module _ (roots : Pairs Name) (name : ℕ) where
   listed_here = list_cases (λ p n. p.get (the_name name) ≡ Some n) (λ n e. e) (λ e. opened_here name refl)
 
   apart : (q n : ℕ) → roots.get (the_name name) ≡ None → roots.get (the_name q) ≡ Some n → q ≡ name → ⊥
-  apart q n none e z = none≢some (roots.get (the_name q)) n (ap (λ x. roots.get (the_name x)) z ∙ none) e
+  apart q n none e z = none-some n (sym (ap (λ x. roots.get (the_name x)) z ∙ none) ∙ e)
 
   -- other names keep their lists
   pub listed_still : (q n : ℕ) → roots.get (the_name q) ≡ Some n → (with_list roots name).get (the_name q) ≡ Some n

@@ -1,6 +1,6 @@
 -- Every run keeps the references in order; so the laws Once and CountsRight.
-use Rattle.std.proofs.Common.{◌≡◌, ℕ, ◌+◌, ◌<◌, ◌≤◌, true, false, cond, List, [], ◌∷◌, ◌++◌, length, get_or, Some, None, Ok, Err, Option, sym, refl, ap, ◌∙◌, subst, ⊎_elim, append_assoc, append-nil, arith, length-append}
-use Rattle.std.proofs.lemmas.Option.{same_Some}
+use Rattle.std.proofs.Common.{◌≡◌, ℕ, ◌+◌, ◌<◌, ◌≤◌, true, false, cond, List, [], ◌∷◌, ◌++◌, length, get_or, Some, None, Ok, Err, Option, sym, refl, ap, ◌∙◌, subst, ⊎_elim, append_assoc, append-nil, arith}
+use Rattle.std.proofs.lemmas.Option.{none-some, same_Some}
 use lib.ListN.{get_or-eq_default}
 use Rattle.std.proofs.lemmas.Bool.{true≢false, cases_lt}
 use Rattle.std.proofs.ByRecursion.{All-weaker}
@@ -21,10 +21,10 @@ use Rattle.model.specs.Kinds.{TypeScript, manner}
 use Rattle.model.specs.State.{Machine, Names, Uses, fresh, no_reference}
 use Rattle.model.specs.Scopes.{is_var, is_strict}
 use Rattle.model.specs.Declaring.{binding}
-use Rattle.model.specs.Resolving.{Fate, resolve_to, list_at_root, stay, settle, settle_all, resolve_end, resolve_here}
+use Rattle.model.specs.Resolving.{Fate, settle, settle_all, resolve_end, resolve_here}
+use Rattle.model.proofs.Growth.{grown}
 use Rattle.model.specs.Calls.{granted, granted_answer, after, answer, answers, refusal, run, told, with_uses, counted}
 use Rattle.laws.specs.OnceLaw.{is_refusal, name_given, accepted, total, resolved_list, numbered_list, root_list, resolved_in_all, listed_in_all, one, sum_of, of_pending, of_resolved, of_root, resolved_to, Placed, Once, is_resolving, CountsGrowth, CountsRight}
-use Rattle.laws.proofs.Basics.{none≢some}
 use Rattle.laws.proofs.Runs.{Good, after_good, fresh_good, run_good}
 use Rattle.laws.proofs.Growing.{declare_grown}
 use Rattle.laws.proofs.Placing.{IsNamed, Ordered, resolve_here_ordered, resolve_end_ordered, refer_ordered, ordered_more}
@@ -80,9 +80,9 @@ fresh_ordered s =
       waiting_named = tt;
       root_named = tt;
       root_numbers = record {
-        below = λ name n e. absurd (none≢some None n refl e);
+        below = λ name n e. absurd (none-some n e);
         belongs = λ n l. absurd (omega arith);
-        one_name = λ x y n e f. absurd (none≢some None n refl e);
+        one_name = λ x y n e f. absurd (none-some n e);
         in_order = refl;
       };
       resolved_rows = tt;
@@ -111,12 +111,12 @@ module _ (names : List ℕ) (m : Machine) (o : InOrder names m) where
 
   module _ (r s : ℕ) (e : resolved_to m.uses r ≡ Some s) where
     none_has_it : {X : Type 0} (col : X → ℕ) (xs : List X) → AllByRecursion (λ x. resolved_to m.uses (col x) ≡ None) xs → sum_of col (one r) xs ≡ 0
-    none_has_it col xs h = none_counted col r xs (All-weaker _ _ (λ x q z. none≢some (resolved_to m.uses (col x)) s q (ap (resolved_to m.uses) z ∙ e)) xs h)
+    none_has_it col xs h = none_counted col r xs (All-weaker _ _ (λ x q z. none-some s (sym q ∙ ap (resolved_to m.uses) z ∙ e)) xs h)
 
     row_there : r < length m.uses.references
     row_there =
         ⊎_elim (λ l. l)
-        (λ (l : length m.uses.references ≤ r). absurd (none≢some (resolved_to m.uses r) s (ap (λ (y : ReferenceRow). symbol_number y.symbol) (get_or-eq_default m.uses.references no_reference l)) e))
+        (λ (l : length m.uses.references ≤ r). absurd (none-some s (sym (ap (λ (y : ReferenceRow). symbol_number y.symbol) (get_or-eq_default m.uses.references no_reference l)) ∙ e)))
         (cases_lt r (length m.uses.references))
 
     -- a row with a symbol is in its resolved list
@@ -138,7 +138,7 @@ module _ (names : List ℕ) (m : Machine) (o : InOrder names m) where
       go : (l : Option ℕ) → m.uses.roots.get (the_name (get_or names r 0)) ≡ l → sum_of of_root (one r) (maybe l [] (numbered_list m.uses)) ≡ sum_of of_root (one r) m.uses.root
       go None e =
           sym (none_counted of_root r m.uses.root
-          (All-weaker _ _ (λ k h z. none≢some (m.uses.roots.get (the_name (get_or names r 0))) k.list e (ap (λ x. m.uses.roots.get (the_name (get_or names x 0))) (sym z) ∙ h.1)) m.uses.root o.root_named))
+          (All-weaker _ _ (λ k h z. none-some k.list (sym e ∙ ap (λ x. m.uses.roots.get (the_name (get_or names x 0))) (sym z) ∙ h.1)) m.uses.root o.root_named))
       go (Some n) e =
           counted_there of_root (λ (k : RootReference). k.list) r n m.uses.root
           (All-weaker _ _ (λ k h z. same_Some k.list n (sym h.1 ∙ ap (λ x. m.uses.roots.get (the_name (get_or names x 0))) z ∙ e)) m.uses.root o.root_named)
@@ -173,10 +173,7 @@ record Longer (us us' : Uses) : Type 0 where
   pub more_root : length us.root ≤ length us'.root
 
 settle_longer : (nm : Names) (us : Uses) (e : UnresolvedReference) (f : Fate) → Longer us (settle nm us e f)
-unfolding settle
-settle_longer nm us e (resolve_to s) = record { more_resolved = simp length-append (omega arith); more_root = omega arith }
-settle_longer nm us e list_at_root = record { more_resolved = omega arith; more_root = simp length-append (omega arith) }
-settle_longer nm us e (stay s) = record { more_resolved = omega arith; more_root = omega arith }
+settle_longer nm us e f = let g = grown nm us e f in record { more_resolved = g.resolved; more_root = g.root }
 
 settle_all_longer : (nm : Names) (fate : Uses → UnresolvedReference → Fate) (es : List UnresolvedReference) (us : Uses) → Longer us (settle_all nm fate us es)
 unfolding settle_all

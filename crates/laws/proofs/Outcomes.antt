@@ -1,7 +1,7 @@
 -- The law on conflicts and redeclarations.
 use Rattle.std.proofs.Common.{◌≡◌, ℕ, suc, true, false, cond, ◌≢◌, List, [], ◌∷◌, ◌++◌, length, set, is_some, Some, None, sym, refl, ap, ◌∙◌, subst, ⊎_elim, arith}
 use lib.Seq.{get_or-append_seam}
-use Rattle.std.proofs.lemmas.Bool.{true≢false, cond_both, cond-true, cond-false}
+use Rattle.std.proofs.lemmas.Bool.{cases_Bool, true≢false, cond_both, cond-true, cond-false}
 use Rattle.stores.specs.Keys.{same_scope_and_name}
 use Rattle.tables.specs.Flags.{meets, TsConditional, VarScope}
 use Rattle.tables.specs.declared.row.SymbolRow.{SymbolRow}
@@ -17,7 +17,7 @@ use Rattle.model.specs.Scopes.{is_var, is_strict, passed, conditional_scope}
 use Rattle.model.specs.Declaring.{Declared, binding, unite, found, declare_shadow_symbol, declare_symbol_on_scope, move_binding, relocate, with_hoisted, with_scope, hoist_all, declare_moved_out}
 use Rattle.model.specs.Calls.{told, bound, granted, after, answer, refusal, run}
 use Rattle.laws.specs.Conflicts.{Beside, Nearest, Reaches, Var, CatchName, Infer, MadeIn, var_scope, conditional, no_conditional, current_scope, ComesUpon, on_the_way, in_scope, NewSymbol, MovesOut, ScopeOfNew, stays, name_taken, moves, Outcome, stopped, united, made, was_granted, is_bind, ConflictsExactly}
-use Rattle.laws.proofs.Basics.{option_cases, bool_cases, is_some_from, same_true}
+use Rattle.laws.proofs.Basics.{option_cases, same_true}
 use Rattle.laws.proofs.Granting.{granted_answers, granted_after, after_keeps, refused_answers, refused_after}
 use Rattle.laws.proofs.Tree.{target_var}
 use Rattle.laws.proofs.Sound.{Sound}
@@ -112,10 +112,10 @@ module _ (m : Machine) (d : Declaration) where
       -- the new symbol is not bound in the var scope
       other_place : same_scope_and_name (place (up m d) d.name.0) (place m.current d.name.0) ≡ false
       other_place =
-          bool_cases (same_scope_and_name (place (up m d) d.name.0) (place m.current d.name.0)) (same_scope_and_name (place (up m d) d.name.0) (place m.current d.name.0) ≡ false)
-          (λ t. absurd (true≢false (sym (target_var m.scopes good.tree (suc m.current) m.current (omega arith) good.here)
+          ⊎_elim (λ t. absurd (true≢false (sym (target_var m.scopes good.tree (suc m.current) m.current (omega arith) good.here)
           ∙ ap (is_var m.scopes) (same_true (up m d) m.current d.name.0 d.name.0 t).0 ∙ no_var_here)))
           (λ t. t)
+          (cases_Bool (same_scope_and_name (place (up m d) d.name.0) (place m.current d.name.0)))
 
       new_binding : binding (declare_shadow_symbol (told m d) m.names m.current).names (up m d) d.name.0 ≡ binding m.names (up m d) d.name.0
       unfolding declare_shadow_symbol
@@ -141,7 +141,7 @@ module _ (m : Machine) (d : Declaration) where
                 })),
           ))
           (λ k e.
-          let taken : is_some (binding r.names t d.name.0) ≡ true = is_some_from _ k (new_binding ∙ e) in (
+          let taken : is_some (binding r.names t d.name.0) ≡ true = ap is_some (new_binding ∙ e) in (
             m.current,
             name_taken t k out up_nearest e refl,
             subst (λ (x : Names). NewSymbol (told m d) m.names x m.current) (sym (cond-true (is_some (binding r.names t d.name.0)) r.names _ taken))

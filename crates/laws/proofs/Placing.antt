@@ -1,9 +1,9 @@
 -- What the calls keep of the references.
 use Rattle.std.proofs.Common.{◌≡◌, ℕ, suc, ◌+◌, ◌<◌, ◌≤◌, cond, ◌⊎◌, List, [], ◌∷◌, ◌++◌, length, get_or, take, drop, Some, None, Option, sym, refl, ap, ◌∙◌, subst, inl, inr, ⊎_elim, arith, length-append, length-set, take-append-drop, get_or-set_other, get_or-set_same}
-use Rattle.std.proofs.lemmas.Option.{same_Some}
+use Rattle.std.proofs.lemmas.Option.{none-some, same_Some}
 use lib.ListN.{get_or-append, get_or-eq_default}
 use lib.Seq.{get_or-append_seam}
-use Rattle.std.proofs.lemmas.Bool.{cond_both, cases_eq, cases_lt, cond-true, cond-false}
+use Rattle.std.proofs.lemmas.Bool.{cases_Bool, cond_both, cases_eq, cases_lt, cond-true, cond-false}
 use Rattle.std.proofs.ByRecursion.{All-push, All-weaker, All-take, All-drop}
 use Rattle.std.specs.List.{AllByRecursion}
 use Rattle.tables.specs.declared.row.ScopeRow.{ScopeRow}
@@ -19,7 +19,7 @@ use Rattle.model.specs.Declaring.{binding}
 use Rattle.model.specs.Resolving.{Fate, resolve_to, list_at_root, stay, settle, settle_all, resolve_end, resolve_here, keep_pending, deferred, list_number, fate_at_end, fate_here, search, serving_in, serves, lookup_chain, chain_up_to, has_ended}
 use Rattle.model.specs.Calls.{refer}
 use Rattle.laws.specs.OnceLaw.{total, sum_of, of_pending, of_resolved, of_root, weight, one, resolved_to, NumbersRight}
-use Rattle.laws.proofs.Basics.{bool_cases, option_cases, none≢some, maybe_both}
+use Rattle.laws.proofs.Basics.{option_cases, maybe_both}
 use Rattle.laws.proofs.Growing.{Grown}
 use Rattle.laws.proofs.Numbering.{listing, listed_here, listed_still, numbers_listing}
 use Rattle.laws.proofs.Weights.{sum_append, settle_weight, one_here, total_one_le, none_there}
@@ -157,21 +157,21 @@ module _ (names : List ℕ) (nm : Names) where
 -- a search ends at a binding of the name
 search_ends : (nm : Names) (name flags s : ℕ) (ps : List ℕ) → search nm name flags ps ≡ Some s → (p : ℕ) × (binding nm p name ≡ Some s)
 unfolding search
-search_ends nm name flags s [] e = absurd (none≢some None s refl e)
+search_ends nm name flags s [] e = absurd (none-some s e)
 search_ends nm name flags s (p ∷ ps) e =
     option_cases (serving_in nm name flags p) ((p : ℕ) × (binding nm p name ≡ Some s))
     (λ q. search_ends nm name flags s ps (sym (ap (λ o. maybe o (search nm name flags ps) Some) q) ∙ e))
     (λ k q. (
       p,
       option_cases (binding nm p name) (binding nm p name ≡ Some s)
-          (λ b. absurd (none≢some None k refl (sym (ap (λ o. maybe o None (λ s. cond (serves nm name flags s) (Some s) None)) b) ∙ q)))
+          (λ b. absurd (none-some k (sym (ap (λ o. maybe o None (λ s. cond (serves nm name flags s) (Some s) None)) b) ∙ q)))
           (λ j b. b ∙ ap Some (that j k (sym (ap (λ o. maybe o None (λ s. cond (serves nm name flags s) (Some s) None)) b) ∙ q) ∙ same_Some k s (sym (ap (λ o. maybe o (search nm name flags ps) Some) q) ∙ e))),
     ))
   where
     that : (j k : ℕ) → cond (serves nm name flags j) (Some j) None ≡ Some k → j ≡ k
-    that j k h = bool_cases (serves nm name flags j) (j ≡ k)
-        (λ t. same_Some j k (sym (cond-true (serves nm name flags j) (Some j) None t) ∙ h))
-        (λ t. absurd (none≢some _ k (cond-false (serves nm name flags j) (Some j) None t) h))
+    that j k h = ⊎_elim (λ t. same_Some j k (sym (cond-true (serves nm name flags j) (Some j) None t) ∙ h))
+        (λ t. absurd (none-some k (sym (cond-false (serves nm name flags j) (Some j) None t) ∙ h)))
+        (cases_Bool (serves nm name flags j))
 
 abbrev resolves_to : Fate → Option ℕ
 resolves_to (resolve_to s) = Some s
@@ -184,7 +184,7 @@ module _ (rows : List ScopeRow) (nm : Names) (leads : (p n k : ℕ) → binding 
   Ok n f = (s : ℕ) → f ≡ resolve_to s → IsNamed nm n s
 
   no_symbol_ok : (n : ℕ) (f : Fate) → resolves_to f ≡ None → Ok n f
-  no_symbol_ok n f q s h = absurd (none≢some None s refl (sym q ∙ ap resolves_to h))
+  no_symbol_ok n f q s h = absurd (none-some s (sym q ∙ ap resolves_to h))
 
   found_ok : (name flags k : ℕ) (ps : List ℕ) → search nm name flags ps ≡ Some k → Ok name (resolve_to k)
   found_ok name flags k ps f s h =
@@ -256,7 +256,7 @@ refer_ordered names nm us r o =
         (λ (l : length us.references ≤ k).
         let gone : resolved_to us k ≡ None = ap (λ (y : ReferenceRow). symbol_number y.symbol) (get_or-eq_default us.references no_reference l) in
         ⊎_elim
-        (λ s. absurd (none≢some v s.0 (sym h ∙ gone) s.1))
+        (λ s. absurd (none-some s.0 (sym gone ∙ h ∙ s.1)))
         (λ (n : v ≡ None). ⊎_elim
         (λ (q : k ≡ length us.references). ap (λ i. resolved_to (refer r us) i) q ∙ ap (λ (y : ReferenceRow). symbol_number y.symbol) (get_or-append_seam us.references x [] no_reference) ∙ sym n)
         (λ (q : k ≡ length us.references → ⊥). (let m : length (us.references ++ x ∷ []) ≤ k = simp length-append (omega arith) in ap (λ (y : ReferenceRow). symbol_number y.symbol) (get_or-eq_default (us.references ++ x ∷ []) no_reference m)) ∙ sym n)

@@ -1,6 +1,6 @@
 -- Each test of the machine is the condition of its row.
 use Rattle.std.proofs.Common.{◌≡◌, ℕ, zero, suc, ◌+◌, ◌-◌, ◌/◌, ◌%◌, ◌^◌, ◌<◌, ◌≤◌, Bool, true, false, not, ◌&&◌, ◌||◌, eqb, ltb, leb, ◌≢◌, ◌⊎◌, List, [], ◌∷◌, length, Some, None, sym, refl, ap, ◌∙◌, subst, ap₂, inl, inr, ⊎_elim, arith}
-use Rattle.std.proofs.lemmas.Option.{same_Some}
+use Rattle.std.proofs.lemmas.Option.{none-some, same_Some}
 use Rattle.std.proofs.lemmas.Bool.{eq-eqb, ne_eqb, eqb-true, eqb-false, ltb-true, ltb-false, leb-true, true≢false, cases_Bool, cases_eq, cases_lt, and_parts, and_left, not-true, not-false, le-leb, true_from_ne_false, cond-true, cond-false, or_from}
 use Rattle.std.specs.Bool.{Decides}
 use Rattle.std.proofs.lemmas.Bool.Decides.{not_from_Decides, Decides-eqb, Decides-ltb, Decides-like, Decides-not, Decides-and, Decides-or, Decides-below_and}
@@ -16,7 +16,7 @@ use Rattle.tables.specs.declared.row.ScopeRow.{ScopeRow}
 use Rattle.model.specs.State.{Machine, fresh}
 use Rattle.model.specs.Scopes.{parent_of, flags_in, is_var, passed}
 use Rattle.model.specs.Calls.{Test, first_of, refusal, reach, declarations_full, run, ◌if◌, most_scopes, most_references}
-use Rattle.laws.proofs.Basics.{none≢some, option_cases, bool_cases}
+use Rattle.laws.proofs.Basics.{option_cases}
 use Rattle.laws.proofs.Granting.{refused_answers, refused_after, refused_by_answer}
 use Rattle.model.proofs.Walks.{passed_here, passed_up}
 use Rattle.laws.proofs.Tree.{Tree, has_parent}
@@ -37,7 +37,7 @@ Matching (t ∷ ts) (row ∷ rows) = (t.refusal ≡ row.refusal) × Decides t.ho
 
 first_refuses : (ts : List Test) (rows : List Row) → Matching ts rows → (r : Refusal) → first_of ts ≡ Some r → FirstIs rows r
 unfolding Matching
-first_refuses [] rows h r e = absurd (none≢some None r refl e)
+first_refuses [] rows h r e = absurd (none-some r e)
 first_refuses (t ∷ ts) [] h r e = absurd h
 first_refuses (t ∷ ts) (row ∷ rows) (same, d, h) r e =
     ⊎_elim (λ (b : t.holds ≡ true). inl (d.0 b, sym same ∙ same_Some t.refusal r (sym (cond-true t.holds (Some t.refusal) (first_of ts) b) ∙ e)))
@@ -60,7 +60,7 @@ unfolding Matching
 first_grants ts [] h e = tt
 first_grants [] (row ∷ rows) h e = absurd h
 first_grants (t ∷ ts) (row ∷ rows) (same, d, h) e =
-    ⊎_elim (λ (b : t.holds ≡ true). absurd (none≢some (first_of (t ∷ ts)) t.refusal e (cond-true t.holds (Some t.refusal) (first_of ts) b)))
+    ⊎_elim (λ (b : t.holds ≡ true). absurd (none-some t.refusal (sym e ∙ cond-true t.holds (Some t.refusal) (first_of ts) b)))
     (λ (b : t.holds ≡ false). (not_from_Decides t.holds d b, first_grants ts rows h (sym (cond-false t.holds (Some t.refusal) (first_of ts) b) ∙ e)))
     (cases_Bool t.holds)
 
@@ -84,7 +84,7 @@ module _ (m : Machine) (c : Call) (ts : List Test) (its : refusal m c ≡ first_
         unchanged = λ r f. refused_after m c r (its ∙ refuses_first ts (table m c) h r f);
         granted = (
           λ no. option_cases (refusal m c) (NoneHolds (table m c)) (λ e. first_grants ts (table m c) h (sym its ∙ e)) (λ r e. absurd (no r (refused_answers m c r e))),
-          λ n r e. none≢some (refusal m c) r (its ∙ grants_first ts (table m c) h n) (refused_by_answer m c r e),
+          λ n r e. none-some r (sym (its ∙ grants_first ts (table m c) h n) ∙ refused_by_answer m c r e),
         );
       }
 
@@ -205,12 +205,12 @@ module _ (rows : List ScopeRow) (tree : Tree rows) where
   way_found : (f s : ℕ) → s < f → s < length rows → WayToVarScope rows s (suc (length (passed rows s)))
   way_found zero s h l = absurd (omega arith)
   way_found (suc f) s h l =
-      bool_cases (is_var rows s) (WayToVarScope rows s (suc (length (passed rows s))))
-      (λ v. subst (λ ps. WayToVarScope rows s (suc (length ps))) (sym (passed_here rows tree.lower s v)) (here s (sym (var_holds s) ∙ v)))
+      ⊎_elim (λ v. subst (λ ps. WayToVarScope rows s (suc (length ps))) (sym (passed_here rows tree.lower s v)) (here s (sym (var_holds s) ∙ v)))
       (λ v. let q : (p : ℕ) × (parent_of rows s ≡ Some p) = has_parent rows tree s l v in
       let b : q.0 < s = tree.lower s q.0 q.1 in
       subst (λ ps. WayToVarScope rows s (suc (length ps))) (sym (passed_up rows tree.lower s q.0 v q.1))
       (up s q.0 (suc (length (passed rows q.0))) (sym (var_holds s) ∙ v) q.1 (way_found f q.0 (omega arith) (omega arith))))
+      (cases_Bool (is_var rows s))
 
   way_only : {s n : ℕ} → WayToVarScope rows s n → n ≡ suc (length (passed rows s))
   way_only (here s v) = sym (ap (λ (ps : List ℕ). suc (length ps)) (passed_here rows tree.lower s (var_holds s ∙ v)))

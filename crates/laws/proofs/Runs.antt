@@ -1,7 +1,8 @@
 -- What every run keeps of the scopes and the names.
-use Rattle.std.proofs.Common.{◌≡◌, ℕ, zero, suc, ◌+◌, ◌<◌, Bool, true, false, not, eqb, List, [], ◌∷◌, ◌++◌, length, set, Some, None, sym, refl, ap, ◌∙◌, arith, length-append, length-set}
+use Rattle.std.proofs.Common.{◌≡◌, ℕ, zero, suc, ◌+◌, ◌<◌, Bool, true, false, not, eqb, List, [], ◌∷◌, ◌++◌, length, set, Some, sym, refl, ap, ◌∙◌, arith, length-append, length-set}
 use Rattle.std.proofs.lemmas.Bool.{cond_both}
 use Rattle.std.proofs.lemmas.Bool.Decides.{nat_tests}
+use Rattle.std.proofs.lemmas.Option.{none-some}
 use Rattle.tables.specs.Flags.{meets, VarScope}
 use Rattle.model.specs.declared.call.Call.{Call}
 use Rattle.model.specs.declared.call.Call.TheVariants.{EnterScope, LeaveScope, Bind, DeclareReference, ResolveReferences, ResolveAllReferences}
@@ -11,7 +12,7 @@ use Rattle.model.specs.State.{Machine, fresh, root_row}
 use Rattle.model.specs.Scopes.{parent_of, flags_in, is_var, is_strict}
 use Rattle.model.specs.Calls.{granted, after, run, child, handed, parent_here, told}
 use Rattle.laws.specs.BindingsLaw.{Bindings}
-use Rattle.laws.proofs.Basics.{maybe_both, none≢some, eval_apart}
+use Rattle.laws.proofs.Basics.{maybe_both, eval_apart}
 use Rattle.laws.proofs.Granting.{after_keeps}
 use Rattle.laws.proofs.Tree.{Tree, tree_push, tree_set, kept_push, kept_set}
 use Rattle.laws.proofs.Sound.{Sound, sound_none, kept_sound, declare_sound}
@@ -31,8 +32,8 @@ root_tree s =
     }
   where
     no_parents : (k p : ℕ) → parent_of (root_row s ∷ []) k ≡ Some p → p < k
-    no_parents zero p e = absurd (none≢some None p refl e)
-    no_parents (suc k) p e = absurd (none≢some None p refl e)
+    no_parents zero p e = absurd (none-some p e)
+    no_parents (suc k) p e = absurd (none-some p e)
 
 pub fresh_good : (s : ℕ) → Good (fresh s)
 fresh_good s = record { tree = root_tree s; here = omega arith; sound = sound_none (root_row s ∷ []) }

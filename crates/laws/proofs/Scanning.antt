@@ -1,6 +1,6 @@
 -- How a var goes to its nearest var scope, and what its scan comes to.
 use Rattle.std.proofs.Common.{◌≡◌, ℕ, zero, suc, ◌<◌, true, false, cond, ◌⊎◌, List, [], ◌∷◌, ◌++◌, length, Some, sym, ap, ◌∙◌, subst, inl, inr, ⊎_elim, append-nil, not-suc-le-zero, arith}
-use Rattle.std.proofs.lemmas.Bool.{cond-true, cond-false}
+use Rattle.std.proofs.lemmas.Bool.{cases_Bool, cond-true, cond-false}
 use Rattle.tables.specs.Flags.{meets, VarScope, ByValue}
 use Rattle.tables.specs.declared.row.ScopeRow.{ScopeRow}
 use Rattle.tables.specs.declared.row.Conflict.{Conflict}
@@ -9,7 +9,7 @@ use Rattle.model.specs.State.{Names, symbol_row, flags_of}
 use Rattle.model.specs.Scopes.{parent_of, is_var, target, passed}
 use Rattle.model.specs.Declaring.{Told, Declared, conflict_of, complain, add_symbol_redeclaration, found, declare_symbol_on_scope, move_binding, scan}
 use Rattle.laws.specs.Conflicts.{NoValue, Nearest, itself, above, StoppedBy, stopped_here, stopped_above, Reaches, reached, passes}
-use Rattle.laws.proofs.Basics.{bool_cases, option_cases}
+use Rattle.laws.proofs.Basics.{option_cases}
 use Rattle.model.proofs.Walks.{target_here, target_up, passed_here, passed_up}
 use Rattle.laws.proofs.Tree.{Tree, Passes, has_parent}
 use Rattle.laws.proofs.ComesUpon.{found_beside, none_beside, one_beside}
@@ -31,11 +31,11 @@ module _ (rows : List ScopeRow) (tree : Tree rows) where
   pub nearest_var : (f s : ℕ) → s < f → s < length rows → Nearest rows VarScope (target rows s) s
   nearest_var zero s h lies = absurd (not-suc-le-zero h)
   nearest_var (suc f) s h lies =
-      bool_cases (is_var rows s) (Nearest rows VarScope (target rows s) s)
-      (λ v. subst (λ t. Nearest rows VarScope t s) (sym (target_here rows tree.lower s v)) (itself v))
+      ⊎_elim (λ v. subst (λ t. Nearest rows VarScope t s) (sym (target_here rows tree.lower s v)) (itself v))
       (λ v. let q : (p : ℕ) × (parent_of rows s ≡ Some p) = has_parent rows tree s lies v in
       let l : q.0 < s = tree.lower s q.0 q.1 in
       subst (λ t. Nearest rows VarScope t s) (sym (target_up rows tree.lower s q.0 v q.1)) (above s q.0 v q.1 (nearest_var f q.0 (omega arith) (omega arith))))
+      (cases_Bool (is_var rows s))
 
   pub stop_passes : (nm : Names) (name p k t s : ℕ) → s < length rows → target rows s ≡ t → Stops rows nm name p k s → Passes rows tree t p
   stop_passes nm name p k t s lies e (at_once v f val) = record { lies = lies; no_var = v; goal = e }
@@ -58,8 +58,7 @@ module _ (rows : List ScopeRow) (tree : Tree rows) where
     unfolding scan
     scan_comes_to nm t zero s h lies goal = absurd (not-suc-le-zero h)
     scan_comes_to nm t (suc f) s h lies goal =
-        bool_cases (is_var rows s) (ScanComesTo nm t s (scan d t nm (passed rows s)))
-        (λ v. inr (
+        ⊎_elim (λ v. inr (
           subst (λ x. Reaches rows nm d.name t x) (sym goal ∙ target_here rows tree.lower s v) (reached (ap (is_var rows) (sym goal ∙ target_here rows tree.lower s v) ∙ v)),
           ap (scan d t nm) (passed_here rows tree.lower s v),
         ))
@@ -71,10 +70,11 @@ module _ (rows : List ScopeRow) (tree : Tree rows) where
         option_cases (found nm s d.name) (ScanComesTo nm t s (scan d t nm (passed rows s)))
         (λ e. on s q.0 v (λ k b. absurd (none_beside nm s d.name e k b)) q.1 (scan d t nm (passed rows s)) (scan d t nm ps) (here ∙ ap (λ o. maybe o (scan d t nm ps) (turn nm s t ps)) e) further)
         (λ k e. let found_it = here ∙ ap (λ o. maybe o (scan d t nm ps) (turn nm s t ps)) e in
-        bool_cases (meets (flags_of nm k) ByValue) (ScanComesTo nm t s (scan d t nm (passed rows s)))
-        (λ val. inl (s, k, at_once v e val, found_it ∙ cond-true (meets (flags_of nm k) ByValue) (stop d nm s t k) _ val))
+        ⊎_elim (λ val. inl (s, k, at_once v e val, found_it ∙ cond-true (meets (flags_of nm k) ByValue) (stop d nm s t k) _ val))
         (λ val. on s q.0 v (λ j b. ap (λ x. meets (flags_of nm x) ByValue) (one_beside nm s d.name j k b (found_beside nm s d.name k e)) ∙ val) q.1 (scan d t nm (passed rows s)) (scan d t nm ps)
-        (found_it ∙ cond-false (meets (flags_of nm k) ByValue) (stop d nm s t k) _ val ∙ ap (λ x. scan d t x ps) (complains_not nm k val)) further)))
+        (found_it ∙ cond-false (meets (flags_of nm k) ByValue) (stop d nm s t k) _ val ∙ ap (λ x. scan d t x ps) (complains_not nm k val)) further)
+        (cases_Bool (meets (flags_of nm k) ByValue))))
+        (cases_Bool (is_var rows s))
       where
         turn : Names → ℕ → ℕ → List ℕ → ℕ → Declared
         turn nm p t ps k = cond (meets (flags_of nm k) ByValue) (stop d nm p t k) (scan d t (complain d nm k) ps)

@@ -1,7 +1,7 @@
 -- What a search along the lookup chain says of the bindings.
-use Rattle.std.proofs.Common.{◌≡◌, ℕ, zero, suc, ◌<◌, ◌≤◌, Bool, true, false, cond, not, ◌&&◌, eqb, List, [], ◌∷◌, Some, None, Option, sym, refl, ap, ◌∙◌, subst, not-suc-le-zero, arith}
-use Rattle.std.proofs.lemmas.Option.{same_Some}
-use Rattle.std.proofs.lemmas.Bool.{eqb-true, eq-eqb, true≢false, cond_both, cond-true, cond-false}
+use Rattle.std.proofs.Common.{◌≡◌, ℕ, zero, suc, ◌<◌, ◌≤◌, Bool, true, false, cond, not, ◌&&◌, eqb, List, [], ◌∷◌, Some, None, Option, sym, refl, ap, ◌∙◌, subst, not-suc-le-zero, ⊎_elim, arith}
+use Rattle.std.proofs.lemmas.Option.{none-some, same_Some}
+use Rattle.std.proofs.lemmas.Bool.{cases_Bool, eqb-true, eq-eqb, true≢false, cond_both, cond-true, cond-false}
 use Rattle.tables.specs.Flags.{meets, FunctionExpression}
 use Rattle.tables.specs.declared.row.ScopeRow.{ScopeRow}
 use Rattle.tables.specs.declared.row.UnresolvedReference.{UnresolvedReference}
@@ -11,7 +11,7 @@ use Rattle.model.specs.Scopes.{parent_of, climb, chain, is_below, is_plain_funct
 use Rattle.model.specs.Declaring.{binding}
 use Rattle.model.specs.Resolving.{search, serving_in, serves, can_resolve, of_arguments, ends_at}
 use Rattle.laws.specs.FirstFit.{flags_now, ServesAt, NothingAt, GoesOn, FirstServing, serves_here, serves_above, NoneServing, none_last, none_above, PassedUp, passed_last, passed_above, Below, itself, child_of}
-use Rattle.laws.proofs.Basics.{bool_cases, option_cases, none≢some}
+use Rattle.laws.proofs.Basics.{option_cases}
 use Rattle.model.proofs.Chains.{at_chain_more}
 use Rattle.laws.proofs.Tree.{Tree}
 
@@ -55,17 +55,17 @@ module _ (m : Machine) (e : UnresolvedReference) where
   serves_some : (s k : ℕ) → look s ≡ Some k → ServesAt m e s k
   serves_some s k h =
       option_cases (binding m.names s name) (ServesAt m e s k)
-      (λ b. absurd (none≢some None k refl (sym (ap (λ o. maybe o None tried) b) ∙ h)))
+      (λ b. absurd (none-some k (sym (ap (λ o. maybe o None tried) b) ∙ h)))
       (λ j b. let t : tried j ≡ Some k = sym (ap (λ o. maybe o None tried) b) ∙ h in
-      bool_cases (good j) (ServesAt m e s k)
-      (λ y. let jk : j ≡ k = same_Some j k (sym (cond-true (good j) (Some j) None y) ∙ t) in
+      ⊎_elim (λ y. let jk : j ≡ k = same_Some j k (sym (cond-true (good j) (Some j) None y) ∙ t) in
       let parts = serving_parts (can_resolve flags (flags_of m.names k)) (of_arguments name flags) (meets (flags_of m.names k) FunctionExpression) (sym (ap good jk) ∙ y) in
       record { bound = b ∙ ap Some jk; can = parts.0; no_expression = parts.1 })
-      (λ y. absurd (none≢some _ k (cond-false (good j) (Some j) None y) t)))
+      (λ y. absurd (none-some k (sym (cond-false (good j) (Some j) None y) ∙ t)))
+      (cases_Bool (good j)))
 
   serves_none : (s : ℕ) → look s ≡ None → NothingAt m e s
   serves_none s h k f =
-      none≢some (look s) k h (ap (λ o. maybe o None tried) f.bound
+      none-some k (sym h ∙ ap (λ o. maybe o None tried) f.bound
       ∙ cond-true (good k) (Some k) None (serving_made (can_resolve flags (flags_of m.names k)) (of_arguments name flags) (meets (flags_of m.names k) FunctionExpression) f.can f.no_expression))
 
   goes_on : (s p : ℕ) → parent_of rows s ≡ Some p → ends s ≡ false → GoesOn m e s p
@@ -73,9 +73,9 @@ module _ (m : Machine) (e : UnresolvedReference) where
 
   ended : (s p : ℕ) → ends s ≡ true → GoesOn m e s p → ⊥
   ended s p t g =
-      bool_cases (of_arguments name flags) ⊥
-      (λ a. true≢false (sym t ∙ ap (λ b. b && is_plain_function rows s) a ∙ g.no_end a))
+      ⊎_elim (λ a. true≢false (sym t ∙ ap (λ b. b && is_plain_function rows s) a ∙ g.no_end a))
       (λ a. true≢false (sym t ∙ ap (λ b. b && is_plain_function rows s) a))
+      (cases_Bool (of_arguments name flags))
 
   -- a search at a list that begins with s
   search_cons : (s : ℕ) (ps : List ℕ) (P : Option ℕ → Type 0) → ((k : ℕ) → look s ≡ Some k → P (Some k)) → (look s ≡ None → P (searched ps)) → P (searched (s ∷ ps))
@@ -92,7 +92,7 @@ module _ (m : Machine) (e : UnresolvedReference) where
 
   no_some : (k : ℕ) → searched [] ≡ Some k → ⊥
   unfolding search
-  no_some k h = none≢some None k refl h
+  no_some k h = none-some k h
 
   -- along the whole chain
   pub first_from : (f s k : ℕ) → searched (until ends (climb rows f s)) ≡ Some k → (t : ℕ) × FirstServing m e s t k
@@ -101,12 +101,12 @@ module _ (m : Machine) (e : UnresolvedReference) where
       let Goal : Type 0 = (t : ℕ) × FirstServing m e s t k in
       search_cons s (cond (ends s) [] (until ends (rest f s))) (λ o. o ≡ Some k → Goal)
       (λ j q e2. (s, serves_here (serves_some s k (q ∙ e2))))
-      (λ q e2. bool_cases (ends s) Goal
-      (λ t. absurd (no_some k (sym (ap searched (cond-true (ends s) [] _ t)) ∙ e2)))
+      (λ q e2. ⊎_elim (λ t. absurd (no_some k (sym (ap searched (cond-true (ends s) [] _ t)) ∙ e2)))
       (λ t. option_cases (parent_of rows s) Goal
       (λ n. absurd (no_some k (sym (ap searched (cond-false (ends s) [] _ t) ∙ ap (λ o. searched (until ends (maybe o [] (climb rows f)))) n) ∙ e2)))
       (λ p n. let r : (t : ℕ) × FirstServing m e p t k = first_from f p k (sym (ap searched (cond-false (ends s) [] _ t) ∙ ap (λ o. searched (until ends (maybe o [] (climb rows f)))) n) ∙ e2) in
-      (r.0, serves_above (serves_none s q) (goes_on s p n t) r.1))))
+      (r.0, serves_above (serves_none s q) (goes_on s p n t) r.1)))
+      (cases_Bool (ends s)))
       h
 
   module _ (tree : Tree rows) where
@@ -115,14 +115,14 @@ module _ (m : Machine) (e : UnresolvedReference) where
     none_from (suc f) s l h =
         let Goal : Type 0 = (t : ℕ) × NoneServing m e s t in
         search_cons s (cond (ends s) [] (until ends (rest f s))) (λ o. o ≡ None → Goal)
-        (λ j q e2. absurd (none≢some (Some j) j e2 refl))
-        (λ q e2. bool_cases (ends s) Goal
-        (λ t. (s, none_last (serves_none s q) (λ p g. ended s p t g)))
+        (λ j q e2. absurd (none-some j (sym e2)))
+        (λ q e2. ⊎_elim (λ t. (s, none_last (serves_none s q) (λ p g. ended s p t g)))
         (λ t. option_cases (parent_of rows s) Goal
-        (λ n. (s, none_last (serves_none s q) (λ p g. none≢some _ p n g.parent)))
+        (λ n. (s, none_last (serves_none s q) (λ p g. none-some p (sym n ∙ g.parent))))
         (λ p n. let lo : p < s = tree.lower s p n in
         let r : (t : ℕ) × NoneServing m e p t = none_from f p (omega arith) (sym (ap searched (cond-false (ends s) [] _ t) ∙ ap (λ o. searched (until ends (maybe o [] (climb rows f)))) n) ∙ e2) in
-        (r.0, none_above (serves_none s q) (goes_on s p n t) r.1))))
+        (r.0, none_above (serves_none s q) (goes_on s p n t) r.1)))
+        (cases_Bool (ends s)))
         h
 
   -- along the chain up to the scope here
@@ -143,11 +143,11 @@ module _ (m : Machine) (e : UnresolvedReference) where
     pub below_from : (f s : ℕ) → reaches f s ≡ true → Below m here s
     below_from zero s b = absurd (true≢false (sym b))
     below_from (suc f) s b =
-        bool_cases (stop s) (Below m here s)
-        (λ u. subst (Below m here) (eqb-true here s u) itself)
+        ⊎_elim (λ u. subst (Below m here) (eqb-true here s u) itself)
         (λ u. option_cases (parent_of rows s) (Below m here s)
         (λ n. absurd (reaches_not f s u n b))
         (λ p n. child_of n (below_from f p (sym (reaches_on f s p u n) ∙ b))))
+        (cases_Bool (stop s))
 
     -- what is searched after s
     abbrev tail : ℕ → ℕ → List ℕ
@@ -164,14 +164,14 @@ module _ (m : Machine) (e : UnresolvedReference) where
         let Goal : Type 0 = (t : ℕ) × FirstServing m e s t k × Below m here t in
         search_cons s (tail f s) (λ o. o ≡ Some k → Goal)
         (λ j q e2. (s, serves_here (serves_some s k (q ∙ e2)), below_from (suc f) s b))
-        (λ q e2. bool_cases (stop s) Goal
-        (λ t. absurd (no_some k (sym (ap searched (cond-true (stop s) [] _ t)) ∙ e2)))
-        (λ u. bool_cases (ends s) Goal
-        (λ t. absurd (no_some k (sym (ap searched (cond-false (stop s) [] _ u ∙ ap (until stop) (cond-true (ends s) [] _ t))) ∙ e2)))
+        (λ q e2. ⊎_elim (λ t. absurd (no_some k (sym (ap searched (cond-true (stop s) [] _ t)) ∙ e2)))
+        (λ u. ⊎_elim (λ t. absurd (no_some k (sym (ap searched (cond-false (stop s) [] _ u ∙ ap (until stop) (cond-true (ends s) [] _ t))) ∙ e2)))
         (λ t. option_cases (parent_of rows s) Goal
         (λ n. absurd (reaches_not f s u n b))
         (λ p n. let r : (t : ℕ) × FirstServing m e p t k × Below m here t = part_first f p k (sym (reaches_on f s p u n) ∙ b) (sym (ap searched (tail_on f s p u t n)) ∙ e2) in
-        (r.0, serves_above (serves_none s q) (goes_on s p n t) r.1, r.2)))))
+        (r.0, serves_above (serves_none s q) (goes_on s p n t) r.1, r.2)))
+        (cases_Bool (ends s)))
+        (cases_Bool (stop s)))
         h
 
     -- whether the chain has ended, after s
@@ -187,17 +187,17 @@ module _ (m : Machine) (e : UnresolvedReference) where
     part_ended (suc f) s b h a =
         let Goal : Type 0 = (t : ℕ) × NoneServing m e s t × Below m here t in
         search_cons s (tail f s) (λ o. o ≡ None → Goal)
-        (λ j q e2. absurd (none≢some (Some j) j e2 refl))
-        (λ q e2. bool_cases (ends s) Goal
-        (λ t. (s, none_last (serves_none s q) (λ p g. ended s p t g), below_from (suc f) s b))
+        (λ j q e2. absurd (none-some j (sym e2)))
+        (λ q e2. ⊎_elim (λ t. (s, none_last (serves_none s q) (λ p g. ended s p t g), below_from (suc f) s b))
         (λ t. let a2 : over f s ≡ true = sym (cond-false (ends s) true _ t) ∙ a in
-        bool_cases (stop s) Goal
-        (λ u. absurd (true≢false (sym a2 ∙ ap (any ends) (cond-true (stop s) [] _ u))))
+        ⊎_elim (λ u. absurd (true≢false (sym a2 ∙ ap (any ends) (cond-true (stop s) [] _ u))))
         (λ u. option_cases (parent_of rows s) Goal
         (λ n. absurd (reaches_not f s u n b))
         (λ p n. let r : (t : ℕ) × NoneServing m e p t × Below m here t =
         part_ended f p (sym (reaches_on f s p u n) ∙ b) (sym (ap searched (tail_on f s p u t n)) ∙ e2) (sym (over_on f s p u n) ∙ a2) in
-        (r.0, none_above (serves_none s q) (goes_on s p n t) r.1, r.2)))))
+        (r.0, none_above (serves_none s q) (goes_on s p n t) r.1, r.2)))
+        (cases_Bool (stop s)))
+        (cases_Bool (ends s)))
         h
 
     pub part_passed : (p f s : ℕ) → parent_of rows here ≡ Some p → reaches f s ≡ true → searched (until stop (until ends (climb rows f s))) ≡ None
@@ -205,17 +205,17 @@ module _ (m : Machine) (e : UnresolvedReference) where
     part_passed p zero s up b h a = absurd (true≢false (sym b))
     part_passed p (suc f) s up b h a =
         search_cons s (tail f s) (λ o. o ≡ None → PassedUp m e here p s)
-        (λ j q e2. absurd (none≢some (Some j) j e2 refl))
-        (λ q e2. bool_cases (ends s) (PassedUp m e here p s)
-        (λ t. absurd (true≢false (sym (cond-true (ends s) true _ t) ∙ a)))
+        (λ j q e2. absurd (none-some j (sym e2)))
+        (λ q e2. ⊎_elim (λ t. absurd (true≢false (sym (cond-true (ends s) true _ t) ∙ a)))
         (λ t. let a2 : over f s ≡ false = sym (cond-false (ends s) true _ t) ∙ a in
-        bool_cases (stop s) (PassedUp m e here p s)
-        (λ u. let hs : here ≡ s = eqb-true here s u in
+        ⊎_elim (λ u. let hs : here ≡ s = eqb-true here s u in
         subst (PassedUp m e here p) hs (passed_last (subst (NothingAt m e) (sym hs) (serves_none s q)) (goes_on here p up (ap ends hs ∙ t))))
         (λ u. option_cases (parent_of rows s) (PassedUp m e here p s)
         (λ n. absurd (reaches_not f s u n b))
         (λ p' n. passed_above (serves_none s q) (goes_on s p' n t)
-        (part_passed p f p' up (sym (reaches_on f s p' u n) ∙ b) (sym (ap searched (tail_on f s p' u t n)) ∙ e2) (sym (over_on f s p' u n) ∙ a2))))))
+        (part_passed p f p' up (sym (reaches_on f s p' u n) ∙ b) (sym (ap searched (tail_on f s p' u t n)) ∙ e2) (sym (over_on f s p' u n) ∙ a2))))
+        (cases_Bool (stop s)))
+        (cases_Bool (ends s)))
         h
 
     -- a scope below here has it on its chain

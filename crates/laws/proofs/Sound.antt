@@ -1,9 +1,9 @@
 -- What declarations keep: bindings lead to symbols of their name and scope, and where a name was hoisted from, the nearest var scope binds it.
 use Rattle.std.proofs.Common.{◌≡◌, ℕ, suc, pred, ◌<◌, ◌≤◌, true, false, cond, ◌≢◌, ◌⊎◌, List, [], ◌∷◌, length, is_some, Some, None, sym, refl, ap, ◌∙◌, subst, inl, inr, ⊎_elim, arith, length-append, length-set, get_or-set_other, get_or-set_same}
-use Rattle.std.proofs.lemmas.Option.{same_Some}
+use Rattle.std.proofs.lemmas.Option.{none-some, same_Some}
 use lib.ListN.{get_or-append}
 use lib.Seq.{get_or-append_seam}
-use Rattle.std.proofs.lemmas.Bool.{true≢false, cond_both, cond-true, cond-false}
+use Rattle.std.proofs.lemmas.Bool.{cases_Bool, true≢false, cond_both, cond-true, cond-false}
 use Rattle.std.specs.List.{AllByRecursion}
 use Rattle.tables.specs.Flags.{meets, ByValue, FunctionExpression}
 use Rattle.tables.specs.declared.row.ScopeRow.{ScopeRow}
@@ -16,7 +16,7 @@ use Rattle.model.specs.State.{Names, no_names, no_symbol, symbol_row, flags_of}
 use Rattle.model.specs.Scopes.{is_var, passed, target, conditional_scope}
 use Rattle.model.specs.Declaring.{relocate, Told, Declared, binding, hoisted, complain, add_symbol_redeclaration, unite, found, not_expression, declare_shadow_symbol, declare_symbol_on_scope, move_binding, scan, hoist_all, with_hoisted, declare_var, declare_moved_out, declare, with_scope}
 use Rattle.laws.specs.BindingsLaw.{IsOf}
-use Rattle.laws.proofs.Basics.{set_keeps, maybe_both, bool_cases, option_cases, none≢some, same_true, same_refl, is_some_from, from_is_some}
+use Rattle.laws.proofs.Basics.{set_keeps, maybe_both, option_cases, same_true, same_refl, from_is_some}
 use Rattle.laws.proofs.Tree.{Tree, Passes, passed_all, target_var, Kept, target_kept}
 
 -- the name is bound in the scope
@@ -36,7 +36,7 @@ pub record Sound (rows : List ScopeRow) (nm : Names) : Type 0 where
 module _ (rows : List ScopeRow) where
   pub sound_none : Sound rows no_names
   sound_none =
-      record { leads = λ s n k e. absurd (none≢some None k refl e); hoists = λ p n k e. absurd (none≢some None k refl e); no_more = omega arith }
+      record { leads = λ s n k e. absurd (none-some k e); hoists = λ p n k e. absurd (none-some k e); no_more = omega arith }
 
   module _ (d : Told) (nm : Names) where
     pub complain_sound : (s : ℕ) → Sound rows nm → Sound rows (complain d nm s)
@@ -74,9 +74,9 @@ module _ (rows : List ScopeRow) where
     make_binds_all : (scope s n : ℕ) → Binds nm s n → Binds (declare_shadow_symbol d nm scope).names s n
     unfolding declare_shadow_symbol
     make_binds_all scope s n b =
-        bool_cases (same_scope_and_name (place s n) (place scope d.name)) (Binds (declare_shadow_symbol d nm scope).names s n)
-        (λ t. (length nm.symbols, cond-true (same_scope_and_name (place s n) (place scope d.name)) _ _ t))
+        ⊎_elim (λ t. (length nm.symbols, cond-true (same_scope_and_name (place s n) (place scope d.name)) _ _ t))
         (λ t. (b.0, cond-false (same_scope_and_name (place s n) (place scope d.name)) _ _ t ∙ b.1))
+        (cases_Bool (same_scope_and_name (place s n) (place scope d.name)))
 
     pub make_binds : (scope : ℕ) → binding (declare_shadow_symbol d nm scope).names scope d.name ≡ Some (declare_shadow_symbol d nm scope).symbol
     unfolding declare_shadow_symbol
@@ -86,8 +86,7 @@ module _ (rows : List ScopeRow) where
     unfolding declare_shadow_symbol
     make_sound scope h =
         record {
-          leads = λ a n k e. bool_cases (same_scope_and_name (place a n) (place scope d.name)) (IsOf (declare_shadow_symbol d nm scope).names a n k)
-              (λ t.
+          leads = λ a n k e. ⊎_elim (λ t.
               let kk : length nm.symbols ≡ k = same_Some _ _ (sym (cond-true (same_scope_and_name (place a n) (place scope d.name)) _ _ t) ∙ e) in
               let an = same_true a scope n d.name t in
               let row = get_or-append_seam nm.symbols (record { name = the_name d.name; start = d.start; end = d.end; flags = symbol_flags d.includes; scope = the_scope scope; node = the_node d.node }) [] no_symbol in
@@ -103,7 +102,8 @@ module _ (rows : List ScopeRow) where
                 there = let l = i.there in simp length-append (omega arith);
                 its_name = ap (λ (r : SymbolRow). r.name.0) row ∙ i.its_name;
                 its_scope = ap (λ (r : SymbolRow). r.scope.0) row ∙ i.its_scope;
-              });
+              })
+              (cases_Bool (same_scope_and_name (place a n) (place scope d.name)));
           hoists = λ p n k e. let i = h.hoists p n k e in record { lies = i.lies; no_var = i.no_var; above = make_binds_all scope (target rows p) n i.above };
           no_more = cond_both (is_some (binding nm scope d.name)) nm.bindings.size (suc nm.bindings.size) (λ z. z ≤ length (declare_shadow_symbol d nm scope).names.symbols)
               (λ _. let l = h.no_more in simp length-append (omega arith)) (λ _. let l = h.no_more in simp length-append (omega arith));
@@ -134,14 +134,13 @@ module _ (rows : List ScopeRow) where
           → (same_scope_and_name (place a n) (place from name) ≡ false) × (binding nm a n ≡ Some k)
       moved_other a n k t e =
           let e2 = sym (cond-false (same_scope_and_name (place a n) (place to name)) (Some s) _ t) ∙ e in
-          bool_cases (same_scope_and_name (place a n) (place from name)) ((same_scope_and_name (place a n) (place from name) ≡ false) × (binding nm a n ≡ Some k))
-          (λ u. absurd (none≢some _ k (cond-true (same_scope_and_name (place a n) (place from name)) None (binding nm a n) u) e2))
+          ⊎_elim (λ u. absurd (none-some k (sym (cond-true (same_scope_and_name (place a n) (place from name)) None (binding nm a n) u) ∙ e2)))
           (λ u. (u, sym (cond-false (same_scope_and_name (place a n) (place from name)) None _ u) ∙ e2))
+          (cases_Bool (same_scope_and_name (place a n) (place from name)))
 
       moved_leads : (a n k : ℕ) → binding moved a n ≡ Some k → IsOf moved a n k
       moved_leads a n k e =
-          bool_cases (same_scope_and_name (place a n) (place to name)) (IsOf moved a n k)
-          (λ t.
+          ⊎_elim (λ t.
           let ks : s ≡ k = same_Some _ _ (sym (cond-true (same_scope_and_name (place a n) (place to name)) (Some s) _ t) ∙ e) in
           let an = same_true a to n name t in
           let row = get_or-set_same nm.symbols s (with_scope (symbol_row nm s) to) no_symbol at_s.there in
@@ -163,20 +162,21 @@ module _ (rows : List ScopeRow) where
             its_name = ap (λ (r : SymbolRow). r.name.0) row ∙ i.its_name;
             its_scope = ap (λ (r : SymbolRow). r.scope.0) row ∙ i.its_scope;
           })
+          (cases_Bool (same_scope_and_name (place a n) (place to name)))
 
       moved_hoists : (p n k : ℕ) → hoisted moved p n ≡ Some k → HoistRight rows moved p n
       moved_hoists p n k e =
           let i = h.hoists p n k e in
           let up = target rows p in
-          let apart : same_scope_and_name (place up n) (place from name) ≡ false = bool_cases (same_scope_and_name (place up n) (place from name)) (same_scope_and_name (place up n) (place from name) ≡ false)
-          (λ t. absurd (true≢false (sym (target_var rows tree (suc p) p (omega arith) i.lies) ∙ ap (is_var rows) (same_true up from n name t).0 ∙ out)))
-          (λ t. t) in
+          let apart : same_scope_and_name (place up n) (place from name) ≡ false = ⊎_elim (λ t. absurd (true≢false (sym (target_var rows tree (suc p) p (omega arith) i.lies) ∙ ap (is_var rows) (same_true up from n name t).0 ∙ out)))
+          (λ t. t)
+          (cases_Bool (same_scope_and_name (place up n) (place from name))) in
           record {
             lies = i.lies;
             no_var = i.no_var;
-            above = bool_cases (same_scope_and_name (place up n) (place to name)) (Binds moved up n)
-                (λ t. (s, cond-true (same_scope_and_name (place up n) (place to name)) (Some s) _ t))
-                (λ t. (i.above.0, cond-false (same_scope_and_name (place up n) (place to name)) (Some s) _ t ∙ cond-false (same_scope_and_name (place up n) (place from name)) None _ apart ∙ i.above.1));
+            above = ⊎_elim (λ t. (s, cond-true (same_scope_and_name (place up n) (place to name)) (Some s) _ t))
+                (λ t. (i.above.0, cond-false (same_scope_and_name (place up n) (place to name)) (Some s) _ t ∙ cond-false (same_scope_and_name (place up n) (place from name)) None _ apart ∙ i.above.1))
+                (cases_Bool (same_scope_and_name (place up n) (place to name)));
           }
 
       moved_size : moved.bindings.size ≤ length moved.symbols
@@ -184,7 +184,7 @@ module _ (rows : List ScopeRow) where
           let b = nm.bindings.size in
           let gone : is_some (cond (same_scope_and_name (place to name) (place from name)) None (binding nm to name)) ≡ false =
           cond_both (same_scope_and_name (place to name) (place from name)) None (binding nm to name) (λ x. is_some x ≡ false) (λ _. refl) (λ _. lacks) in
-          let less : cond (is_some (binding nm from name)) (pred b) b ≡ pred b = cond-true (is_some (binding nm from name)) (pred b) b (is_some_from _ s at_from) in
+          let less : cond (is_some (binding nm from name)) (pred b) b ≡ pred b = cond-true (is_some (binding nm from name)) (pred b) b (ap is_some at_from) in
           let size : moved.bindings.size ≡ suc (pred b) = cond-false _ _ _ gone ∙ ap suc less in
           let l = h.no_more in
           let l2 = at_s.there in
@@ -203,15 +203,15 @@ module _ (rows : List ScopeRow) where
     hoist_sound p lies out b h =
         record {
           leads = λ a n k e. let i = h.leads a n k e in record { there = i.there; its_name = i.its_name; its_scope = i.its_scope };
-          hoists = λ q n k e. bool_cases (same_scope_and_name (place q n) (place p name)) (HoistRight rows (with_hoisted nm p name s) q n)
-              (λ t. let qn = same_true q p n name t in
+          hoists = λ q n k e. ⊎_elim (λ t. let qn = same_true q p n name t in
               record {
                 lies = subst (λ x. x < length rows) (sym qn.0) lies;
                 no_var = ap (is_var rows) qn.0 ∙ out;
                 above = (b.0, ap (λ x. binding nm (target rows x) n) qn.0 ∙ ap (λ x. binding nm (target rows p) x) qn.1 ∙ b.1);
               })
               (λ t. let i = h.hoists q n k (sym (cond-false (same_scope_and_name (place q n) (place p name)) (Some s) _ t) ∙ e) in
-              record { lies = i.lies; no_var = i.no_var; above = i.above });
+              record { lies = i.lies; no_var = i.no_var; above = i.above })
+              (cases_Bool (same_scope_and_name (place q n) (place p name)));
           no_more = h.no_more;
         }
 
@@ -221,14 +221,14 @@ module _ (rows : List ScopeRow) where
   found_cases nm scope name s e =
       option_cases (binding nm scope name) ((binding nm scope name ≡ Some s) ⊎ (hoisted nm scope name ≡ Some s))
       (λ b. inr (option_cases (hoisted nm scope name) (hoisted nm scope name ≡ Some s)
-      (λ c. absurd (none≢some None s refl (sym (ap (λ o. maybe (maybe o (hoisted nm scope name) Some) None (not_expression nm)) b ∙ ap (λ o. maybe o None (not_expression nm)) c) ∙ e)))
+      (λ c. absurd (none-some s (sym (ap (λ o. maybe (maybe o (hoisted nm scope name) Some) None (not_expression nm)) b ∙ ap (λ o. maybe o None (not_expression nm)) c) ∙ e)))
       (λ k c. c ∙ ap Some (only k (sym (ap (λ o. maybe (maybe o (hoisted nm scope name) Some) None (not_expression nm)) b ∙ ap (λ o. maybe o None (not_expression nm)) c) ∙ e)))))
       (λ k b. inl (b ∙ ap Some (only k (sym (ap (λ o. maybe (maybe o (hoisted nm scope name) Some) None (not_expression nm)) b) ∙ e))))
     where
       only : (k : ℕ) → not_expression nm k ≡ Some s → k ≡ s
-      only k q = bool_cases (meets (flags_of nm k) FunctionExpression) (k ≡ s)
-          (λ t. absurd (none≢some _ s (cond-true (meets (flags_of nm k) FunctionExpression) None (Some k) t) q))
+      only k q = ⊎_elim (λ t. absurd (none-some s (sym (cond-true (meets (flags_of nm k) FunctionExpression) None (Some k) t) ∙ q)))
           (λ t. same_Some k s (sym (cond-false (meets (flags_of nm k) FunctionExpression) None (Some k) t) ∙ q))
+          (cases_Bool (meets (flags_of nm k) FunctionExpression))
 
   module _ (tree : Tree rows) (d : Told) where
     -- a declaration beside a symbol that is there
@@ -269,7 +269,7 @@ module _ (rows : List ScopeRow) where
           sound = ⊎_elim
               (λ b. move_sound tree nm' p t d.name s way.no_var b h')
               (λ c. let up : Binds nm t d.name = subst (λ x. Binds nm x d.name) way.goal (h.hoists p d.name s c).above in
-              subst (Sound rows) (sym (move_stays tree nm' p t d.name s (is_some_from (binding nm t d.name) up.0 up.1))) h')
+              subst (Sound rows) (sym (move_stays tree nm' p t d.name s (ap is_some up.1))) h')
               (found_cases nm p d.name s e);
           binds = move_binds tree nm' p t d.name s;
         }
@@ -318,7 +318,7 @@ module _ (rows : List ScopeRow) where
           (λ b. hoist_sound tree (move_binding r.names here t d.name r.symbol) here t d.name r.symbol here lies out
           (move_binds tree r.names here t d.name r.symbol)
           (move_sound tree r.names here t d.name r.symbol out b hr))
-          (λ c. absurd (true≢false (sym (is_some_from _ c.2.0 c.2.1) ∙ lacks)))
+          (λ c. absurd (true≢false (sym (ap is_some c.2.1) ∙ lacks)))
           (declare_on_binds nm here h))
 
       pub declare_sound : (how : Manner) → (how ≡ MovedOut → is_var rows here ≡ false) → Sound rows (declare how d rows here nm).names

@@ -1,9 +1,9 @@
 -- Scopes, and what lies on their chains.
 use Rattle.std.proofs.Common.{◌≡◌, ℕ, zero, suc, ◌<◌, ◌≤◌, true, false, cond, List, [], ◌∷◌, ◌++◌, length, set, Some, None, Option, sym, refl, ap, ◌∙◌, subst, ⊎_elim, not-suc-le-zero, arith, length-append, length-set}
-use Rattle.std.proofs.lemmas.Option.{same_Some}
+use Rattle.std.proofs.lemmas.Option.{none-some, same_Some}
 use lib.ListN.{get_or-append}
 use lib.Seq.{get_or-append_seam}
-use Rattle.std.proofs.lemmas.Bool.{true≢false, cases_lt}
+use Rattle.std.proofs.lemmas.Bool.{cases_Bool, true≢false, cases_lt}
 use Rattle.std.specs.List.{AllByRecursion}
 use Rattle.tables.specs.Flags.{meets, VarScope}
 use Rattle.tables.specs.Trees as trees
@@ -13,7 +13,7 @@ use Rattle.model.specs.Basics.{maybe, scope_number, first}
 use Rattle.model.specs.State.{no_scope}
 use Rattle.model.specs.Scopes.{parent_of, is_var, climb, chain, passed, target}
 use Rattle.model.proofs.Walks.{target_here, target_up, passed_here, passed_up}
-use Rattle.laws.proofs.Basics.{set_keeps, bool_cases, option_cases, none≢some}
+use Rattle.laws.proofs.Basics.{set_keeps, option_cases}
 
 -- every scope but the root has a parent of a lower number; the root has none, and is a var scope
 pub record Tree (rows : List ScopeRow) : Type 0 where
@@ -33,11 +33,11 @@ module _ (rows : List ScopeRow) (tree : Tree rows) where
   pub target_var : (f s : ℕ) → s < f → s < length rows → is_var rows (target rows s) ≡ true
   target_var zero s h k = absurd (not-suc-le-zero h)
   target_var (suc f) s h k =
-      bool_cases (is_var rows s) (is_var rows (target rows s) ≡ true)
-      (λ v. ap (is_var rows) (target_here rows tree.lower s v) ∙ v)
+      ⊎_elim (λ v. ap (is_var rows) (target_here rows tree.lower s v) ∙ v)
       (λ v. let q : (p : ℕ) × (parent_of rows s ≡ Some p) = has_parent s k v in
       let l : q.0 < s = tree.lower s q.0 q.1 in
       ap (is_var rows) (target_up rows tree.lower s q.0 v q.1) ∙ target_var f q.0 (omega arith) (omega arith))
+      (cases_Bool (is_var rows s))
 
   -- what a var passes on the way to the target t
   pub record Passes (t s : ℕ) : Type 0 where
@@ -48,14 +48,14 @@ module _ (rows : List ScopeRow) (tree : Tree rows) where
   pub passed_all : (f t s : ℕ) → s < f → s < length rows → target rows s ≡ t → AllByRecursion (Passes t) (passed rows s)
   passed_all zero t s h k e = absurd (not-suc-le-zero h)
   passed_all (suc f) t s h k e =
-      bool_cases (is_var rows s) (AllByRecursion (Passes t) (passed rows s))
-      (λ v. subst (AllByRecursion (Passes t)) (sym (passed_here rows tree.lower s v)) tt)
+      ⊎_elim (λ v. subst (AllByRecursion (Passes t)) (sym (passed_here rows tree.lower s v)) tt)
       (λ v. let q : (p : ℕ) × (parent_of rows s ≡ Some p) = has_parent s k v in
       let l : q.0 < s = tree.lower s q.0 q.1 in
       subst (AllByRecursion (Passes t)) (sym (passed_up rows tree.lower s q.0 v q.1)) (
         record { lies = k; no_var = v; goal = e },
         passed_all f t q.0 (omega arith) (omega arith) (sym (target_up rows tree.lower s q.0 v q.1) ∙ e),
       ))
+      (cases_Bool (is_var rows s))
 
 -- scopes that have come to be, or changed, and left the others as they were
 pub record Kept (rows rows' : List ScopeRow) : Type 0 where
@@ -97,7 +97,7 @@ module _ (rows : List ScopeRow) (x : ScopeRow) where
         lower = tree_rows.tree_push rows x tree.lower (λ p q. subst (λ n. n < length rows) (same_Some c p (sym e ∙ q)) h);
         only_root = λ s l q. ⊎_elim (λ k. tree.only_root s k (sym (kept_push.parents s k) ∙ q))
             (λ (k : length rows ≤ s). let z : s ≡ length rows = omega (arith, simp length-append at l) in
-            absurd (none≢some (scope_number x.parent) c (sym (ap (λ n. parent_of (rows ++ x ∷ []) n) z ∙ ap (λ (r : ScopeRow). scope_number r.parent) (get_or-append_seam rows x [] no_scope)) ∙ q) e))
+            absurd (none-some c (sym (sym (ap (λ n. parent_of (rows ++ x ∷ []) n) z ∙ ap (λ (r : ScopeRow). scope_number r.parent) (get_or-append_seam rows x [] no_scope)) ∙ q) ∙ e)))
             (cases_lt s (length rows));
         top = kept_push.vars 0 tree.there ∙ tree.top;
         there = simp length-append (omega arith);

@@ -1,14 +1,13 @@
 -- Lists with one more at the end, and the ways of vars.
 use Rattle.std.proofs.Common.{◌≡◌, ℕ, zero, suc, ◌<◌, ◌≤◌, true, ◌⊎◌, List, [], ◌∷◌, ◌++◌, length, Some, sym, refl, ap, ◌∙◌, subst, inl, inr, ⊎_elim, not-suc-le-zero, arith}
 use lib.ListN.{get_or-eq_default}
-use Rattle.std.proofs.lemmas.Bool.{true≢false, cases_lt}
+use Rattle.std.proofs.lemmas.Bool.{cases_Bool, true≢false, cases_lt}
 use Rattle.tables.specs.Flags.{meets, VarScope}
 use Rattle.tables.specs.declared.row.ScopeRow.{ScopeRow}
 use Rattle.model.specs.State.{no_scope}
 use Rattle.model.specs.Scopes.{parent_of, is_var, target, passed}
 use Rattle.laws.specs.Conflicts.{Nearest, itself, above}
 use Rattle.laws.specs.EarlyErrors.{OnWay, start, onward, OneOf, TwoOf}
-use Rattle.laws.proofs.Basics.{bool_cases}
 use Rattle.model.proofs.Walks.{target_here, target_up, passed_here, passed_up}
 use Rattle.laws.proofs.Tree.{Tree, Kept, has_parent}
 
@@ -65,9 +64,9 @@ module _ (rows : List ScopeRow) where
     pub way_passed : (f q s : ℕ) → s < f → s < length rows → OnWay rows q s → OneOf (λ p. p ≡ q) (passed rows s) ⊎ (q ≡ target rows s)
     way_passed zero q s h l w = absurd (not-suc-le-zero h)
     way_passed (suc f) q s h l start =
-        bool_cases (is_var rows s) (OneOf (λ p. p ≡ s) (passed rows s) ⊎ (s ≡ target rows s))
-        (λ v. inr (sym (target_here rows tree.lower s v)))
+        ⊎_elim (λ v. inr (sym (target_here rows tree.lower s v)))
         (λ v. let p = has_parent rows tree s l v in inl (subst (OneOf (λ p. p ≡ s)) (sym (passed_up rows tree.lower s p.0 v p.1)) (inl refl)))
+        (cases_Bool (is_var rows s))
     way_passed (suc f) q s h l (onward _ p v e r) =
         let k : p < s = tree.lower s p e in
         ⊎_elim
@@ -78,13 +77,13 @@ module _ (rows : List ScopeRow) where
     pub passed_way : (f q s : ℕ) → s < f → s < length rows → OneOf (λ p. p ≡ q) (passed rows s) → OnWay rows q s
     passed_way zero q s h l o = absurd (not-suc-le-zero h)
     passed_way (suc f) q s h l o =
-        bool_cases (is_var rows s) (OnWay rows q s)
-        (λ v. absurd (subst (OneOf (λ p. p ≡ q)) (passed_here rows tree.lower s v) o))
+        ⊎_elim (λ v. absurd (subst (OneOf (λ p. p ≡ q)) (passed_here rows tree.lower s v) o))
         (λ v. let p : (p : ℕ) × (parent_of rows s ≡ Some p) = has_parent rows tree s l v in
         let k : p.0 < s = tree.lower s p.0 p.1 in
         ⊎_elim (λ e. subst (λ x. OnWay rows x s) e start)
         (λ r. onward s p.0 v p.1 (passed_way f q p.0 (omega arith) (omega arith) r))
         (subst (OneOf (λ x. x ≡ q)) (passed_up rows tree.lower s p.0 v p.1) o))
+        (cases_Bool (is_var rows s))
 
 -- scopes that come to be leave the ways
 pub way_kept : (rows rows' : List ScopeRow) → Tree rows → Kept rows rows' → (q s : ℕ) → s < length rows → OnWay rows' q s → OnWay rows q s

@@ -1,13 +1,12 @@
 -- References are moved from list to list, and none is lost or doubled. A weight of each reference makes one law of it: the weights
 -- in the three lists together are those of all references.
 use Rattle.std.proofs.Common.{◌≡◌, ℕ, zero, suc, ◌+◌, ◌<◌, ◌≤◌, eqb, List, [], ◌∷◌, ◌++◌, length, filter, sym, refl, ap, ◌∙◌, ⊎_elim, not-suc-le-zero, arith}
-use Rattle.std.proofs.lemmas.Bool.{cond_both, cases_eq, cases_lt, eqb-true, eqb-false, eq-eqb, ne_eqb, cond-true, cond-false}
+use Rattle.std.proofs.lemmas.Bool.{cases_Bool, cond_both, cases_eq, cases_lt, eqb-true, eqb-false, eq-eqb, ne_eqb, cond-true, cond-false}
 use Rattle.std.specs.List.{AllByRecursion}
 use Rattle.tables.specs.declared.row.UnresolvedReference.{UnresolvedReference}
 use Rattle.model.specs.State.{Names, Uses}
 use Rattle.model.specs.Resolving.{Fate, resolve_to, list_at_root, stay, settle, settle_all}
 use Rattle.laws.specs.OnceLaw.{total, sum_of, of_pending, weight, one}
-use Rattle.laws.proofs.Basics.{bool_cases}
 
 pub sum_append : {X : Type 0} (col : X → ℕ) (w : ℕ → ℕ) (xs ys : List X) → sum_of col w (xs ++ ys) ≡ sum_of col w xs + sum_of col w ys
 sum_append col w [] ys = omega arith
@@ -83,11 +82,11 @@ total_parts key bound (x ∷ xs) h =
     let b = total_one (key x) bound h.0 in
     let c = total_plus (one (key x)) (λ k. length (filter (λ y. eqb (key y) k) xs)) bound in
     let e = total_same (λ k. length (filter (λ y. eqb (key y) k) (x ∷ xs))) (λ k. one (key x) k + length (filter (λ y. eqb (key y) k) xs)) bound
-    (λ k. bool_cases (eqb (key x) k) (length (filter (λ y. eqb (key y) k) (x ∷ xs)) ≡ one (key x) k + length (filter (λ y. eqb (key y) k) xs))
-    (λ t. let l = ap length (cond-true (eqb (key x) k) (x ∷ filter (λ y. eqb (key y) k) xs) (filter (λ y. eqb (key y) k) xs) t) in
+    (λ k. ⊎_elim (λ t. let l = ap length (cond-true (eqb (key x) k) (x ∷ filter (λ y. eqb (key y) k) xs) (filter (λ y. eqb (key y) k) xs) t) in
     let o : one (key x) k ≡ 1 = ap (one (key x)) (sym (eqb-true (key x) k t)) ∙ one_here (key x) in omega arith)
     (λ t. let l = ap length (cond-false (eqb (key x) k) (x ∷ filter (λ y. eqb (key y) k) xs) (filter (λ y. eqb (key y) k) xs) t) in
-    let o = one_apart (key x) k (λ q. eqb-false (key x) k t (sym q)) in omega arith)) in
+    let o = one_apart (key x) k (λ q. eqb-false (key x) k t (sym q)) in omega arith)
+    (cases_Bool (eqb (key x) k))) in
     omega arith
 
 -- what is not there is not counted

@@ -1,7 +1,7 @@
 -- What a declaration writes into the rows of symbols, the redeclarations and the conflicts.
 use Rattle.std.proofs.Common.{◌≡◌, ℕ, ◌<◌, Bool, true, cond, eqb, ◌≢◌, List, [], ◌∷◌, ◌++◌, length, is_some, refl, ap, ◌∙◌, inl, inr, ⊎_elim, append-nil, length-set, get_or-set_other, get_or-set_same}
 use lib.Bits.{bit_or}
-use Rattle.std.proofs.lemmas.Bool.{cond_both, eq-eqb, eqb-true, or_cases, or_left, or_right, cond-true, cond-false}
+use Rattle.std.proofs.lemmas.Bool.{cases_Bool, cond_both, eq-eqb, eqb-true, or_cases, or_left, or_right, cond-true, cond-false}
 use Rattle.tables.specs.Flags.{meets}
 use Rattle.tables.specs.declared.row.SymbolRow.{SymbolRow}
 use Rattle.tables.specs.declared.row.Redeclaration.{Redeclaration}
@@ -9,7 +9,7 @@ use Rattle.tables.specs.declared.row.Conflict.{Conflict}
 use Rattle.model.specs.State.{Names, no_symbol, symbol_row, flags_of}
 use Rattle.model.specs.Declaring.{Told, binding, has_redeclaration, first_declaration, new_declaration, conflict_of, complain, add_symbol_redeclaration, unite, declare_shadow_symbol, move_binding, relocate, hoist_all, with_hoisted, with_scope, with_flags}
 use Rattle.laws.specs.Conflicts.{Redeclared, Again, NewSymbol, own_entry, new_entry}
-use Rattle.laws.proofs.Basics.{set_keeps, bool_cases}
+use Rattle.laws.proofs.Basics.{set_keeps}
 
 has_it : (k : ℕ) (es : List Redeclaration) → Redeclared k es → has_redeclaration k es ≡ true
 has_it k [] h = absurd h
@@ -105,9 +105,9 @@ module _ (d : Told) (nm : Names) (k : ℕ) where
         agrees = λ e. ap (λ (xs : List Conflict). nm.conflicts ++ xs) (cond-false (meets (flags_of nm k) d.excludes) (conflict_of d (symbol_row nm k) ∷ []) [] e) ∙ append-nil nm.conflicts;
         later_one = λ r. ap (λ (es : List Redeclaration). nm.redeclarations ++ es) (cond-true (has_redeclaration k nm.redeclarations) (new_declaration k d ∷ []) _ (has_it k nm.redeclarations r));
         first_one = λ r. ap (λ (es : List Redeclaration). nm.redeclarations ++ es)
-            (bool_cases (has_redeclaration k nm.redeclarations) (WritesOwn (has_redeclaration k nm.redeclarations))
-            (λ t. absurd (r (it_has k nm.redeclarations t)))
-            (λ t. cond-false (has_redeclaration k nm.redeclarations) (new_declaration k d ∷ []) (first_declaration k (symbol_row nm k) ∷ new_declaration k d ∷ []) t));
+            (⊎_elim (λ t. absurd (r (it_has k nm.redeclarations t)))
+            (λ t. cond-false (has_redeclaration k nm.redeclarations) (new_declaration k d ∷ []) (first_declaration k (symbol_row nm k) ∷ new_declaration k d ∷ []) t)
+            (cases_Bool (has_redeclaration k nm.redeclarations)));
         as_many = refl;
         others = λ j ne. refl;
         its_name = refl;

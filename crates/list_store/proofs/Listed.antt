@@ -9,6 +9,7 @@ use Rattle.std.proofs.lemmas.List.{drop-take, take_more_set, get_or_default, get
 use Rattle.std.proofs.lemmas.List.Edits.{take-paste}
 use Rattle.std.proofs.lemmas.List.Quantifiers.{all_pairs_push, all_pairs_remove, position-Some}
 use Rattle.stores.specs.Pairs.{put, drop_pair, full}
+use Rattle.stores.proofs.Rooms.{same_pairs}
 use Rattle.list_store.specs.declared.entry.Entry.{Entry}
 use Rattle.list_store.specs.Found.{found, Apart, listed}
 use Rattle.list_store.proofs.Entries.{Missing, Hit, position_missing, position_hit, missing_found, hit_found, found_set, found_push, found_removed, found_missing}
@@ -25,13 +26,6 @@ kept n i xs ys l h is =
     ∙ ap₂ (λ ys zs. ys ++ zs) (sym (take-take i n xs (omega arith))) (ap (λ j. take c (drop j xs)) (add-one i) ∙ sym (drop-take (suc i) c xs) ∙ ap (λ m. drop (suc i) (take m xs)) (sym all))
 
 module _ {K : Type 0} (e : K → K → Bool) where
-  pub apart_fewer : (n m : ℕ) (xs : List (Entry K)) → m ≤ n → n ≤ length xs → Apart e xs n → Apart e xs m
-  apart_fewer n m xs l h apart a b d lt within =
-      let long = length-take-le n xs h in
-      let short = length-take-le m xs (omega arith) in
-      let same : (j : ℕ) → j < m → get_or (take m xs) j d ≡ get_or (take n xs) j d = λ j w. get_or-take m xs j d w ∙ sym (get_or-take n xs j d (omega arith)) in
-      ap₂ (λ x y. e x.key y.key) (same a (omega arith)) (same b (omega arith)) ∙ apart a b d lt (omega arith)
-
   module _ (laws : IsEquivalence e) (n : ℕ) (xs : List (Entry K)) (k : K) (h : n ≤ length xs) where
     unread : Entry K
     unread = record { key = k; number = 0 }
@@ -65,9 +59,8 @@ module _ {K : Type 0} (e : K → K → Bool) where
         pub put_set : listed e n (set xs i y) ≡ put e (listed e n xs) k y.number
         put_set =
             let key = same ∙ ap (λ z. z.key) (sym (get_or-take n xs i y hit_within)) in
-            let get : (q : K) → found e (take n (set xs i y)) q ≡ cond (e q k) (Some y.number) (found e (take n xs) q) = λ q. ap (λ zs. found e zs q) (take-set-lt n xs i y hit_within) ∙ found_set e laws k q y.number y (take n xs) i key refl hit in
-            let size : n ≡ cond (is_some (found e (take n xs) k)) n (suc n) = ap (λ o. cond (is_some o) n (suc n)) (sym (hit_found e k unread (take n xs) i hit)) in
-            λ s. record { get = λ q. get q s; size = size s }
+            same_pairs (λ q. ap (λ zs. found e zs q) (take-set-lt n xs i y hit_within) ∙ found_set e laws k q y.number y (take n xs) i key refl hit)
+            (ap (λ o. cond (is_some o) n (suc n)) (sym (hit_found e k unread (take n xs) i hit)))
 
       pub apart_removed : (ys : List (Entry K)) → ys ≡ copy_within xs (i + 1) n i → Apart e xs n → Apart e ys (n - 1)
       apart_removed ys is apart =
@@ -83,9 +76,8 @@ module _ {K : Type 0} (e : K → K → Bool) where
           let behind : Missing e (drop (suc i) (take n xs)) k =
           All-from_get_or (λ x. e k x.key ≡ false) (drop (suc i) (take n xs)) unread
           (λ j b. ap (λ z. e k z.key) (get_or-drop (suc i) (take n xs) j unread) ∙ laws.congr k (get_or (take n xs) i unread).key (get_or (take n xs) (suc i + j) unread).key f.1 ∙ apart i (suc i + j) unread (omega arith) (omega arith)) in
-          let get : (q : K) → found e (take (n - 1) ys) q ≡ cond (e q k) None (found e (take n xs) q) = λ q. ap (λ zs. found e zs q) (kept n i xs ys hit_within h is) ∙ found_removed e laws k q (take n xs) i hit behind in
-          let size : n - 1 ≡ cond (is_some (found e (take n xs) k)) (pred n) n = sub-one n ∙ ap (λ o. cond (is_some o) (pred n) n) (sym (hit_found e k unread (take n xs) i hit)) in
-          λ s. record { get = λ q. get q s; size = size s }
+          same_pairs (λ q. ap (λ zs. found e zs q) (kept n i xs ys hit_within h is) ∙ found_removed e laws k q (take n xs) i hit behind)
+          (sub-one n ∙ ap (λ o. cond (is_some o) (pred n) n) (sym (hit_found e k unread (take n xs) i hit)))
 
       pub get_hit : (d : Entry K) → Some (get_or xs i d).number ≡ found e (take n xs) k
       get_hit d = ap (λ z. Some z.number) (sym (get_or-take n xs i d hit_within)) ∙ sym (hit_found e k d (take n xs) i hit)
@@ -101,10 +93,7 @@ module _ {K : Type 0} (e : K → K → Bool) where
       full_missing capacity = ap (λ o. not (is_some o) && eqb n capacity) (missing_found e k (take n xs) missing)
 
       pub drop_missing : listed e n xs ≡ drop_pair e (listed e n xs) k
-      drop_missing =
-          let get : (q : K) → found e (take n xs) q ≡ cond (e q k) None (found e (take n xs) q) = λ q. found_missing e laws k q (take n xs) missing in
-          let size : n ≡ cond (is_some (found e (take n xs) k)) (pred n) n = ap (λ o. cond (is_some o) (pred n) n) (sym (missing_found e k (take n xs) missing)) in
-          λ s. record { get = λ q. get q s; size = size s }
+      drop_missing = same_pairs (λ q. found_missing e laws k q (take n xs) missing) (ap (λ o. cond (is_some o) (pred n) n) (sym (missing_found e k (take n xs) missing)))
 
       module _ (v : ℕ) (room : n < length xs) where
         abbrev pub y : Entry K
@@ -119,6 +108,5 @@ module _ {K : Type 0} (e : K → K → Bool) where
 
         pub put_push : listed e (n + 1) (set xs n y) ≡ put e (listed e n xs) k v
         put_push =
-            let get : (q : K) → found e (take (n + 1) (set xs n y)) q ≡ cond (e q k) (Some v) (found e (take n xs) q) = λ q. ap (λ zs. found e zs q) (take_more_set xs n y room) ∙ found_push e laws k q v (take n xs) missing in
-            let size : n + 1 ≡ cond (is_some (found e (take n xs) k)) n (suc n) = add-one n ∙ ap (λ o. cond (is_some o) n (suc n)) (sym (missing_found e k (take n xs) missing)) in
-            λ s. record { get = λ q. get q s; size = size s }
+            same_pairs (λ q. ap (λ zs. found e zs q) (take_more_set xs n y room) ∙ found_push e laws k q v (take n xs) missing)
+            (add-one n ∙ ap (λ o. cond (is_some o) n (suc n)) (sym (missing_found e k (take n xs) missing)))

@@ -7,7 +7,7 @@ use Rattle.model.specs.Declaring.{Declared}
 use Rattle.model.specs.View.{names_of, declared}
 use Rattle.lookup.specs.declared.name_tables.NameTables.{NameTables}
 
--- by the meaning of either store
+-- by the meaning of either store, which is given: a struct with no ghost field has no ghosts of its bounds
 abbrev pub names_in : {B H : Type 0} → (B → Pairs ScopeAndName) → (H → Pairs ScopeAndName) → NameTables B H → Names
 names_in bindings hoisting t = names_of t.scoping (bindings t.bindings) (hoisting t.hoisting)
 

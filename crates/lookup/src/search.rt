@@ -1,4 +1,5 @@
 //! How a reference finds its symbol along its lookup chain.
+// Name and flags are apart: they come from two rows, and the definitions take them so.
 ghost use Rattle.std.specs.Prelude.{◌≡◌};
 ghost use Rattle.model.specs.Basics.{place, symbol_number};
 ghost use Rattle.model.specs.Scopes.{chain, is_below};

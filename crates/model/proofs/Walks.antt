@@ -8,28 +8,13 @@ use Rattle.model.specs.Scopes.{parent_of, is_var, climb, chain, target, passed}
 use Rattle.model.proofs.Chains.{at_chain, at_chain_more, at_chain_top}
 
 module _ (rows : List ScopeRow) (tree : Tree rows) where
-  -- the first scope that passes a test
-  module _ (test : ℕ → Bool) (other : ℕ) where
-    pub first_here : (s : ℕ) → test s ≡ true → first test other (chain rows s) ≡ s
-    first_here s v = at_chain rows tree (first test other) s ∙ cond-true (test s) s _ v
-
-    pub first_up : (s p : ℕ) → test s ≡ false → parent_of rows s ≡ Some p → first test other (chain rows s) ≡ first test other (chain rows p)
-    first_up s p v e = at_chain_more rows tree (first test other) s p e ∙ cond-false (test s) s _ v
-
-    pub first_top : (s : ℕ) → test s ≡ false → parent_of rows s ≡ None → first test other (chain rows s) ≡ other
-    first_top s v e = at_chain_top rows tree (first test other) s e ∙ cond-false (test s) s other v
-
   pub target_here : (s : ℕ) → is_var rows s ≡ true → target rows s ≡ s
   unfolding target
-  target_here s v = first_here (is_var rows) 0 s v
+  target_here s v = at_chain rows tree (first (is_var rows) 0) s ∙ cond-true (is_var rows s) s _ v
 
   pub target_up : (s p : ℕ) → is_var rows s ≡ false → parent_of rows s ≡ Some p → target rows s ≡ target rows p
   unfolding target
-  target_up s p v e = first_up (is_var rows) 0 s p v e
-
-  pub target_top : (s : ℕ) → is_var rows s ≡ false → parent_of rows s ≡ None → target rows s ≡ 0
-  unfolding target
-  target_top s v e = first_top (is_var rows) 0 s v e
+  target_up s p v e = at_chain_more rows tree (first (is_var rows) 0) s p e ∙ cond-false (is_var rows s) s _ v
 
   pub passed_here : (s : ℕ) → is_var rows s ≡ true → passed rows s ≡ []
   unfolding passed
@@ -43,12 +28,7 @@ module _ (rows : List ScopeRow) (tree : Tree rows) where
   unfolding passed
   passed_top s v e = at_chain_top rows tree (before (is_var rows)) s e ∙ cond-false (is_var rows s) [] _ v
 
-  -- a scope that is no var scope is passed first
-  pub passed_cons : (s : ℕ) → is_var rows s ≡ false → (ps : List ℕ) × (passed rows s ≡ s ∷ ps)
-  unfolding passed
-  passed_cons s v = (before (is_var rows) (maybe (parent_of rows s) [] (chain rows)), at_chain rows tree (before (is_var rows)) s ∙ cond-false (is_var rows s) [] _ v)
-
-before_short : (test : ℕ → Bool) (xs : List ℕ) → length (before test xs) ≤ length xs
+pub before_short : (test : ℕ → Bool) (xs : List ℕ) → length (before test xs) ≤ length xs
 before_short test [] = omega arith
 before_short test (x ∷ xs) = let h = before_short test xs in cond_both (test x) [] (x ∷ before test xs) (λ ys. length ys ≤ length (x ∷ xs)) (λ _. omega arith) (λ _. omega arith)
 

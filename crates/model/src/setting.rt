@@ -7,7 +7,7 @@ ghost use Rattle.tables.specs.declared.refusal.Refusal.TheVariants.{UnlistedBits
 use tables::refusal::Refusal;
 
 /// The setting of a builder, whose bits are listed.
-// Bits and no two bools: bits are what is given, and each is read by a name.
+// Bits and no two bools, with a reader of a line for each: the machine starts from the bits.
 #[derive(Clone, Copy, PartialEq, Eq)]
 pub struct Setting {
     bits: u8,

@@ -1,8 +1,9 @@
 -- What resolving does to the uses, entry by entry and in whole.
-use Rattle.std.proofs.Common.{◌≡◌, ℕ, ◌+◌, ◌<◌, ◌≤◌, List, length, drop, Some, None, Option, sym, refl, ap, ◌∙◌, subst, arith}
+use Rattle.std.proofs.Common.{◌≡◌, ℕ, ◌+◌, ◌<◌, ◌≤◌, List, ◌∷◌, length, drop, Some, None, Option, sym, refl, ap, ◌∙◌, subst, ap₂, arith}
 use Rattle.std.specs.List.{slice_get}
-use Rattle.std.proofs.lemmas.List.{length_push, length-set, length-take-le, drop_all, drop-set-lt}
-use Rattle.tables.proofs.Nths.{nth_below, drop_nth, nth_ahead, drop_ahead}
+use Rattle.std.proofs.lemmas.List.{length-set, length-take-le, drop_all, drop_more, drop-set-lt}
+use Rattle.std.proofs.lemmas.Grind.{drop_more_same}
+use Rattle.std.proofs.lemmas.Option.{slice_get_within, get_or_from_slice_get}
 use Rattle.tables.specs.declared.id.Name.{Name}
 use Rattle.tables.specs.declared.row.ScopeRow.{ScopeRow}
 use Rattle.tables.specs.declared.row.UnresolvedReference.{UnresolvedReference}
@@ -12,28 +13,11 @@ use Rattle.stores.specs.declared.key.ScopeAndName.{ScopeAndName}
 use Rattle.model.specs.State.{Names, Uses}
 use Rattle.model.specs.Resolving.{Fate as ModelFate, resolve_to, list_at_root, stay, deferred, settle, settle_all, fate_here, fate_at_end}
 use Rattle.model.specs.View.{names_of, uses_of, beside_uses}
+use Rattle.model.proofs.Growth.{Grown, grown}
 use Rattle.resolving.specs.Fates.{fate_meant, fate_in, kept_by, pending_by, kept_front, symbols_of, resolve_by, Settled}
 use Rattle.resolving.specs.declared.fate.Fate.{Fate}
 use Rattle.resolving.specs.declared.fate.Fate.TheVariants.{Resolve, ListAtRoot, Stay}
 use Rattle.resolving.specs.declared.fate.EndOfScope.{EndOfScope}
-
--- how many entries there are in the three lists
-abbrev pub entries : Uses → ℕ
-entries us = length us.pending + length us.resolved + length us.root
-
--- what one entry more changes of the sizes
-pub record Grown (us v : Uses) : Type 0 where
-  pub references : length v.references ≡ length us.references
-  pub total : entries v ≡ entries us + 1
-  pub resolved : length us.resolved ≤ length v.resolved
-  pub root : length us.root ≤ length v.root
-  pub size : v.roots.size ≤ us.roots.size + 1
-
-pub grown : (nm : Names) (us : Uses) (e : UnresolvedReference) (f : ModelFate) → Grown us (settle nm us e f)
-unfolding settle
-grown nm us e (resolve_to s) = search (arith, length_push, length-set)
-grown nm us e list_at_root = search (arith, length_push, length-set)
-grown nm us e (stay s) = search (arith, length_push, length-set)
 
 -- how the pending list is overwritten
 
@@ -101,9 +85,10 @@ module _ (end : Option EndOfScope) (bindings hoisting : Pairs ScopeAndName) (sta
       let step : kept_front (uses_of new next) m ≡ settle (the_names old) us e (machine_fate us e) =
       s.after ∙ ap (settle (symbols_of mid) us e) fate ∙ settle_by_symbols (symbols_of mid) (the_names old) us e (machine_fate us e) (ap (λ (x : Contents). x.symbols) i.rest) in
       let g : Grown us (kept_front (uses_of new next) m) = subst (Grown us) (sym step) (grown (the_names old) us e (machine_fate us e)) in
-      let d = drop_nth old.pending k e (sym (nth_ahead mid.pending old.pending k i.ahead) ∙ q) in
       let small = kept_small f kept in
-      let there = nth_below mid.pending k e q in
+      let there = slice_get_within mid.pending k e q in
+      let on = drop_more_same mid.pending old.pending k i.ahead in
+      let d = sym i.ahead ∙ drop_more mid.pending k e there ∙ ap₂ (λ x xs. x ∷ xs) (get_or_from_slice_get mid.pending k e e q) on in
       let count = s.count in
       let high = i.high in
       let long : length new.pending ≡ length mid.pending = ap length s.pending ∙ pending_length f mid.pending kept e in
@@ -112,7 +97,7 @@ module _ (end : Option EndOfScope) (bindings hoisting : Pairs ScopeAndName) (sta
       record {
         same = ap (λ (u : Uses). settled_from u (drop (k + 1) old.pending)) step ∙ sym (ap (settled_from us) d) ∙ i.same;
         rest = s.rest ∙ i.rest;
-        ahead = ap (drop (k + 1)) s.pending ∙ pending_drop f mid.pending kept e (k + 1) (omega arith) ∙ drop_ahead mid.pending old.pending k i.ahead;
+        ahead = ap (drop (k + 1)) s.pending ∙ pending_drop f mid.pending kept e (k + 1) (omega arith) ∙ on;
         long = long ∙ i.long;
         high = omega arith;
         total = omega (arith, g.total, i.total);

@@ -17,6 +17,8 @@ use stores::key::ScopeAndName;
 use stores::store::Store;
 use tables::id::{Name, ScopeId};
 
+// Names and roots are apart: names are looked up, and the lists of roots written.
+
 /// Settles the pending entries from `start` on, and keeps those that stay, in order.
 fn settle_pending<B: Store<ScopeAndName>, H: Store<ScopeAndName>, R: Store<Name>>(
     names: &mut NameTables<B, H>,

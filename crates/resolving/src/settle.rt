@@ -102,7 +102,7 @@ pub(crate) fn settle_entry<R: Store<Name>>(
     requires room { HasRoomForOne (uses_of scoping.old (R.PairSet.pairs roots.old)) }
     ensures { Settled scoping.old (R.PairSet.pairs roots.old) scoping.new (R.PairSet.pairs roots.new) entry fate kept result }
 {
-    // Three outcomes that are each acted on.
+    // A match and no closures: each outcome writes to another list.
     match fate {
         Fate::Resolve(symbol) => {
             resolve_reference(scoping, entry, symbol);

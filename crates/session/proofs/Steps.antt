@@ -1,6 +1,5 @@
 -- A binder goes on as the reference machine does, one call after the other.
-use Rattle.std.proofs.Common.{◌≡◌, ℕ, ◌+◌, ◌<◌, List, [], ◌∷◌, ◌++◌, length, get_or, take, sym, ap, ◌∙◌}
-use Rattle.std.proofs.lemmas.List.{take_more}
+use Rattle.std.proofs.Common.{◌≡◌, ℕ, List, [], ◌∷◌, ◌++◌, sym, ap, ◌∙◌}
 use Rattle.model.specs.declared.call.Call.{Call}
 use Rattle.model.specs.State.{Machine, fresh}
 use Rattle.model.specs.Calls.{Answer, run, answers, answer, builder_after, builder_answer}
@@ -17,11 +16,3 @@ module _ (setting : ℕ) (cs : List Call) (c : Call) where
 
   pub next_answers : (m : Machine) (a : Answer) → m ≡ run (fresh setting) cs → a ≡ builder_answer m c → answers (fresh setting) cs ++ a ∷ [] ≡ answers (fresh setting) (cs ++ c ∷ [])
   next_answers m a e h = ap {B = List Answer} (λ x. answers (fresh setting) cs ++ x ∷ []) (next_answer m a e h) ∙ sym (longer_law (fresh setting) cs c).answered
-
--- the next call of a list
-module _ (setting : ℕ) (cs : List Call) (i : ℕ) (d : Call) (lies : i < length cs) (m : Machine) (e : m ≡ run (fresh setting) (take i cs)) where
-  pub turn_state : (n : Machine) → n ≡ builder_after m (get_or cs i d) → n ≡ run (fresh setting) (take (i + 1) cs)
-  turn_state n h = next_state setting (take i cs) (get_or cs i d) m n e h ∙ sym (ap (run (fresh setting)) (take_more cs i d lies))
-
-  pub turn_answers : (a : Answer) → a ≡ builder_answer m (get_or cs i d) → answers (fresh setting) (take i cs) ++ a ∷ [] ≡ answers (fresh setting) (take (i + 1) cs)
-  turn_answers a h = next_answers setting (take i cs) (get_or cs i d) m a e h ∙ sym (ap (answers (fresh setting)) (take_more cs i d lies))

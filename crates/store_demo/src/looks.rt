@@ -4,16 +4,13 @@ use hash_store::slot::Slot;
 use stores::key::{Key, ScopeAndName};
 
 /// The sum and the most of several look-ups.
-#[derive(Clone, Copy)]
+#[derive(Clone, Copy, Default)]
 pub struct Looks {
     pub total: usize,
     pub worst: usize,
 }
 
 impl Looks {
-    // A constant and no `Default`: it is named where a sum begins.
-    pub const NONE: Looks = Looks { total: 0, worst: 0 };
-
     fn with(self, reads: usize) -> Looks {
         Looks {
             total: self.total.saturating_add(reads),
@@ -43,7 +40,7 @@ fn reads(slots: &[Slot<ScopeAndName>], key: ScopeAndName) -> usize {
 fn of_zone<F: Fn(u32) -> ScopeAndName>(slots: &[Slot<ScopeAndName>], key: F) -> Looks
     requires { F.IsAlwaysCallable key }
 {
-    let mut looks = Looks::NONE;
+    let mut looks = Looks::default();
     for k in 0..BINDINGS {
         looks = looks.with(reads(slots, key(k)));
     }

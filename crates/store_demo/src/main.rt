@@ -23,7 +23,7 @@ mod zone;
 
 const ENTRIES: usize = LEAST_CAPACITY;
 
-const TOO_FEW: usize = 511;
+const TOO_FEW: usize = LEAST_CAPACITY - 1;
 
 const SLOTS: usize = 1024;
 
@@ -107,16 +107,13 @@ fn main(rt: HostRuntime) -> io::Result<()> {
         scope: ScopeId(1),
         name: Name(8),
     };
-    let mut entries = [Entry { key: a, number: 0 }; ENTRIES];
+    let mut entries = [Entry::default(); ENTRIES];
     show_answers(
         rt,
         "list store, scope and name",
         exercised(Places::new(&mut entries).map(ListStore::new), a, b),
     )?;
-    let mut named = [Entry {
-        key: Name(0),
-        number: 0,
-    }; ENTRIES];
+    let mut named = [Entry::default(); ENTRIES];
     show_answers(
         rt,
         "list store, name",
@@ -126,13 +123,13 @@ fn main(rt: HostRuntime) -> io::Result<()> {
             Name(8),
         ),
     )?;
-    let mut slots = [Slot::Empty; SLOTS];
+    let mut slots = [Slot::default(); SLOTS];
     show_answers(
         rt,
         "hashed store, scope and name",
         exercised(Places::new(&mut slots).map(HashStore::new), a, b),
     )?;
-    let mut name_slots = [Slot::Empty; SLOTS];
+    let mut name_slots = [Slot::default(); SLOTS];
     show_answers(
         rt,
         "hashed store, name",
@@ -152,7 +149,7 @@ fn main(rt: HostRuntime) -> io::Result<()> {
         "hashed store, fresh",
         asked(Places::new(&mut slots).map(HashStore::new), a),
     )?;
-    let mut few_slots = [Slot::Empty; TOO_FEW];
+    let mut few_slots = [Slot::default(); TOO_FEW];
     show_asked(
         rt,
         "hashed store, too few slots",
@@ -160,7 +157,7 @@ fn main(rt: HostRuntime) -> io::Result<()> {
     )?;
     show_zone(rt, &mut slots, 0)?;
     show_zone(rt, &mut slots, ROUNDS)?;
-    let mut more_slots = [Slot::Empty; MORE_SLOTS];
+    let mut more_slots = [Slot::default(); MORE_SLOTS];
     show_zone(rt, &mut more_slots, 0)?;
     show_zone(rt, &mut more_slots, ROUNDS)
 }

@@ -20,7 +20,7 @@ pub trait Key: Copy + Eq {
 }
 
 /// The key of a binding.
-#[derive(Clone, Copy, PartialEq, Eq)]
+#[derive(Clone, Copy, PartialEq, Eq, Default)]
 pub struct ScopeAndName {
     pub scope: ScopeId,
     pub name: Name,

@@ -1,4 +1,3 @@
-pub mod Nths
 pub mod TreeRows
 pub mod Pushes
 pub mod RowAnswers

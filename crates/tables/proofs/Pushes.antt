@@ -1,17 +1,11 @@
 -- Rows that find room.
-use Rattle.std.proofs.Common.{◌≡◌, ℕ, ◌+◌, ◌<◌, ◌≤◌, Bool, true, false, cond, ltb, List, [], ◌∷◌, ◌++◌, length, Ok, Err, Result, refl, ap, ◌∙◌, append_assoc, arith}
-use Rattle.std.proofs.lemmas.List.{length_push}
+use Rattle.std.proofs.Common.{◌≡◌, ℕ, ◌<◌, Bool, true, false, cond, ltb, List, [], ◌∷◌, ◌++◌, length, Ok, Err, Result, refl, ap, arith}
 use Rattle.std.proofs.lemmas.Bool.{lt-ltb, ltb-true}
 use Rattle.tables.specs.declared.refusal.Refusal.{Refusal}
 use Rattle.tables.specs.Contents.{pushed, push_answer}
 
 pub pushed_room : {X : Type 0} (most : ℕ) (xs : List X) (x : X) → length xs < most → pushed most xs x ≡ xs ++ x ∷ []
 pushed_room most xs x h = ap (λ b. cond b (xs ++ x ∷ []) xs) (lt-ltb (length xs) most h)
-
-pub pushed_two : {X : Type 0} (most : ℕ) (xs : List X) (x y : X) → length xs + 2 ≤ most → pushed most (pushed most xs x) y ≡ xs ++ x ∷ y ∷ []
-pushed_two most xs x y h =
-    let l = length_push xs x in
-    ap (λ zs. pushed most zs y) (pushed_room most xs x (omega arith)) ∙ pushed_room most (xs ++ x ∷ []) y (omega arith) ∙ append_assoc xs (x ∷ []) (y ∷ [])
 
 -- by the answer of a call that adds a row
 
@@ -27,10 +21,3 @@ by_test most xs x id full v false t q = let z : ◌≡◌ {A = ℕ} 0 1 = cc in 
 
 pub push_ok : {X V : Type 0} (most : ℕ) (xs : List X) (x : X) (id : ℕ → V) (full : Refusal) (v : V) → Ok v ≡ push_answer most xs id full → Pushed most xs x id v
 push_ok most xs x id full v q = by_test most xs x id full v (ltb (length xs) most) refl q
-
-by_refusal : {X V : Type 0} (xs : List X) (x : X) (w : V) (full e : Refusal) (b : Bool) → ◌≡◌ {A = Result V Refusal} (Err e) (cond b (Ok w) (Err full)) → cond b (xs ++ x ∷ []) xs ≡ xs
-by_refusal xs x w full e true q = let z : ◌≡◌ {A = ℕ} 0 1 = cc in absurd (omega arith)
-by_refusal xs x w full e false q = refl
-
-pub push_refused : {X V : Type 0} (most : ℕ) (xs : List X) (x : X) (id : ℕ → V) (full e : Refusal) → Err e ≡ push_answer most xs id full → pushed most xs x ≡ xs
-push_refused most xs x id full e q = by_refusal xs x (id (length xs)) full e (ltb (length xs) most) q

@@ -1,22 +1,17 @@
 -- What the answer to a reading call tells of the row.
-use Rattle.std.proofs.Common.{◌≡◌, ℕ, ◌<◌, List, length, Some, None, Ok, Err, Option, Result, get_or, refl, ◌∙◌, subst, arith, unwrap_or}
-use Rattle.std.proofs.lemmas.Option.{unwrap_or-slice_get}
+use Rattle.std.proofs.Common.{◌≡◌, ℕ, ◌<◌, List, length, Some, None, Err, Option, Result, get_or, refl, ◌∙◌, subst, arith, unwrap_or}
+use Rattle.std.proofs.lemmas.Option.{slice_get_cases, unwrap_or-slice_get}
 use Rattle.std.specs.List.{slice_get}
 use Rattle.std.specs.Option.{UnwrapsOrElse}
 use Rattle.tables.specs.declared.refusal.Refusal.{Refusal}
 use Rattle.tables.specs.Contents.{row_answer}
-use Rattle.tables.proofs.Nths.{nth_there}
-
-pub row_given : {X : Type 0} (o : Option X) (x : X) → ◌≡◌ {A = Result X Refusal} (Ok x) (row_answer o) → o ≡ Some x
-row_given None x q = let z : ◌≡◌ {A = ℕ} 0 1 = cc in absurd (omega arith)
-row_given (Some y) x q = cc
 
 row_absent : {X : Type 0} (o : Option X) (r : Refusal) → ◌≡◌ {A = Result X Refusal} (Err r) (row_answer o) → o ≡ None
 row_absent None r q = refl
 row_absent (Some y) r q = let z : ◌≡◌ {A = ℕ} 0 1 = cc in absurd (omega arith)
 
 pub row_there : {X : Type 0} (xs : List X) (k : ℕ) (r : Refusal) → k < length xs → ◌≡◌ {A = Result X Refusal} (Err r) (row_answer (slice_get xs k)) → ⊥
-row_there xs k r h q = nth_there xs k h (row_absent (slice_get xs k) r q)
+row_there xs k r h q = let e = row_absent (slice_get xs k) r q in grind (arith, slice_get_cases)
 
 unwrapped : {X : Type 0} (o : Option X) (IsDefault : X → Type 0) (r d : X) → (IsDefault r → r ≡ d) → UnwrapsOrElse o IsDefault r → r ≡ unwrap_or o d
 unwrapped None IsDefault r d f u = f u

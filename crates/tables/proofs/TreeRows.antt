@@ -9,9 +9,6 @@ use Rattle.tables.specs.Ids.{scope_number}
 use Rattle.tables.specs.EmptyRows.{no_scope}
 use Rattle.tables.specs.Trees.{Tree, parent_at}
 
-pub tree_none : Tree []
-tree_none s p e = let z : ◌≡◌ {A = ℕ} 0 1 = cc in absurd (omega arith)
-
 pub tree_push : (xs : List ScopeRow) (row : ScopeRow) → Tree xs → ((p : ℕ) → scope_number row.parent ≡ Some p → p < length xs) → Tree (xs ++ row ∷ [])
 tree_push xs row t h s p e =
     ⊎_elim (λ (q : s ≡ length xs).

@@ -3,7 +3,7 @@ ghost use Rattle.std.specs.Prelude.{◌≡◌, ℕ, bit_and, bit_or, nat_le};
 ghost use Rattle.tables.specs.Flags.{meets, less, all_scope_flags, all_symbol_flags, all_reference_flags};
 
 /// A set of flags of one kind, kept as bits.
-// What makes a set (union, intersection, difference) stands at each type: here it would have to narrow a wider number to the type's own width.
+// What makes a set (union, intersection, difference) stands at each type: over all widths it takes a trait of words with laws for `|`, `&` and `-`.
 pub trait FlagSet: Copy {
     /// Its bits, as a number.
     ghost number: { Self → ℕ };

@@ -13,6 +13,7 @@ impl fmt::Display for AnswerLine {
     ghost output = { λ x. Some (answer_line x.0) };
 
     fn fmt<W: fmt::Write>(&self, f: &mut fmt::Formatter<W>) -> fmt::Result {
+        // Ids, counts and refusals are printed as their numbers, here alone.
         match self.0 {
             Ok(Granted::Scope(id)) => write!(f, "scope {}", id.0),
             Ok(Granted::Symbol(id)) => write!(f, "symbol {}", id.0),

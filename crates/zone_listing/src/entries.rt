@@ -1,4 +1,5 @@
 //! The lines of bindings and of lists. An index counts from 0.
+// Ids and flags are printed as their numbers, as in `rows`.
 ghost use Rattle.std.specs.Prelude.{Some};
 ghost use Rattle.zone_listing.specs.Listing.{table_word, pair_line, redeclaration_line, conflict_line, pending_line, resolved_line, root_line};
 

@@ -13,6 +13,7 @@ use tables::scoping::Scoping;
 use zone_listing::answer::AnswerLine;
 
 /// The answers, one to a line, and then the tables.
+// The arguments of a run, as they are; nothing keeps them together.
 pub fn report<B: Store<ScopeAndName> + Drop, H: Store<ScopeAndName> + Drop, R: Store<Name> + Drop>(
     heap: Global,
     setting: Setting,

@@ -8,10 +8,8 @@ use list_store::list::ListStore;
 use model::call::Call;
 use model::setting::Setting;
 use std::alloc::Global;
-use stores::key::ScopeAndName;
 use stores::places::Places;
 use stores::store::LEAST_CAPACITY;
-use tables::id::{Name, ScopeId};
 
 /// How many slots each hashed store is lent: four times as many as it may come to hold.
 const SLOTS: usize = 2048;
@@ -19,21 +17,15 @@ const SLOTS: usize = 2048;
 /// How many entries each list store is lent.
 const ENTRIES: usize = LEAST_CAPACITY;
 
-// A constant and no `Default`: an array is filled with it.
-const NO_KEY: ScopeAndName = ScopeAndName {
-    scope: ScopeId::ROOT,
-    name: Name::ARGUMENTS,
-};
-
 // The arrays are long enough for their stores, so no `unwrap` below can fail.
 
 // Two functions and no trait over both memories: it would need a store type for each key and lifetime.
 
 /// Runs the list over hashed stores.
 pub fn report_hashed(heap: Global, setting: Setting, calls: &[Call]) -> Result<String, NoMemory> {
-    let mut bindings = [Slot::Empty; SLOTS];
-    let mut hoisting = [Slot::Empty; SLOTS];
-    let mut roots = [Slot::Empty; SLOTS];
+    let mut bindings = [Slot::default(); SLOTS];
+    let mut hoisting = [Slot::default(); SLOTS];
+    let mut roots = [Slot::default(); SLOTS];
     report(
         heap,
         setting,
@@ -46,18 +38,9 @@ pub fn report_hashed(heap: Global, setting: Setting, calls: &[Call]) -> Result<S
 
 /// Runs the list over list stores.
 pub fn report_listed(heap: Global, setting: Setting, calls: &[Call]) -> Result<String, NoMemory> {
-    let mut bindings = [Entry {
-        key: NO_KEY,
-        number: 0,
-    }; ENTRIES];
-    let mut hoisting = [Entry {
-        key: NO_KEY,
-        number: 0,
-    }; ENTRIES];
-    let mut roots = [Entry {
-        key: Name::ARGUMENTS,
-        number: 0,
-    }; ENTRIES];
+    let mut bindings = [Entry::default(); ENTRIES];
+    let mut hoisting = [Entry::default(); ENTRIES];
+    let mut roots = [Entry::default(); ENTRIES];
     report(
         heap,
         setting,

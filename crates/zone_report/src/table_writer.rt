@@ -69,6 +69,7 @@ fn write_by_symbol<T: OwnedRow<Owner = SymbolId>>(
 where
     EntryLine<T>: Display,
 {
+    // By number: of a symbol nothing else is asked.
     for i in 0..symbols {
         let symbol = SymbolId(number(i));
         let own = entries.iter().copied().filter(|entry| entry.is_of(symbol));
@@ -131,9 +132,9 @@ pub fn write_tables<B: Store<ScopeAndName>, H: Store<ScopeAndName>, R: Store<Nam
     let symbols = scoping.symbols().len();
     let line = CurrentLine(builder.current_scope());
     writeln!(out, "{line}")?;
-    write_rows(out, scoping.scopes(), |i| ScopeId(i))?;
-    write_rows(out, scoping.symbols(), |i| SymbolId(i))?;
-    write_rows(out, scoping.references(), |i| ReferenceId(i))?;
+    write_rows(out, scoping.scopes(), ScopeId)?;
+    write_rows(out, scoping.symbols(), SymbolId)?;
+    write_rows(out, scoping.references(), ReferenceId)?;
     write_pairs(out, scoping, PairTable::Bindings, builder.bindings())?;
     write_pairs(out, scoping, PairTable::Hoisting, builder.hoisting())?;
     write_by_symbol(out, symbols, scoping.redeclarations())?;

@@ -7,16 +7,10 @@ use Rattle.std.proofs.lemmas.Bool.Decides.{nat_tests}
 use Rattle.std.proofs.lemmas.List.{drop_all, take_rest}
 use Rattle.std.proofs.lemmas.List.Recursion.{is_position_or_len}
 use Rattle.model.specs.Basics.{before}
+use Rattle.model.proofs.Walks.{before_short}
 use Rattle.zone_text.specs.Pieces.{behind, onto_first, pieces, filled}
 
 module _ (test : ℕ → Bool) where
-  length_before : (bs : List ℕ) → length (before test bs) ≤ length bs
-  length_before [] = omega arith
-  length_before (b ∷ bs) =
-      let more = length_before bs in
-      elim (test b) as (λ t. length (cond t [] (b ∷ before test bs)) ≤ length (b ∷ bs))
-      [ true ↦ omega arith | false ↦ omega arith ]
-
   take_before : (bs : List ℕ) → take (length (before test bs)) bs ≡ before test bs
   take_before [] = refl
   take_before (b ∷ bs) =
@@ -44,7 +38,7 @@ module _ (test : ℕ → Bool) where
 
   pub cut_nowhere : (bs : List ℕ) → None ≡ position test bs → (bs ≡ before test bs) × ([] ≡ behind test bs)
   cut_nowhere bs e =
-      let at : length bs ≡ length (before test bs) = grind (arith, nat_tests, length_before_is bs, length_before bs) in (
+      let at : length bs ≡ length (before test bs) = grind (arith, nat_tests, length_before_is bs, before_short test bs) in (
         sym (take-length bs) ∙ ap (λ k. take k bs) at ∙ take_before bs,
         sym (drop_all (suc (length bs)) bs (omega arith)) ∙ ap (λ k. drop (suc k) bs) at ∙ drop_before bs,
       )

@@ -1,6 +1,5 @@
 //! One line of an operation list.
 ghost use Rattle.std.specs.Prelude.{◌≡◌};
-ghost use Rattle.zone_text.specs.Pieces.{words};
 ghost use Rattle.zone_text.specs.Lines.{operation_of, line_meaning};
 ghost use Rattle.zone_text.specs.declared.verb.Verb.TheVariants.{Set, Enter, Leave, Bind, Refer, Resolve, ResolveAll};
 
@@ -15,7 +14,7 @@ use tables::id::{Name, NodeId, ScopeId};
 // One function for each operation, as the definitions have it: those with as many numbers share nothing but that.
 
 fn setting(line: &mut Words) -> Result<Operation, LineError>
-    ensures { result ≡ operation_of Set (words line.old.rest.now) }
+    ensures { result ≡ operation_of Set line.old }
 {
     let bits = line.next_number()?;
     line.end()?;
@@ -23,7 +22,7 @@ fn setting(line: &mut Words) -> Result<Operation, LineError>
 }
 
 fn enter_scope(line: &mut Words) -> Result<Operation, LineError>
-    ensures { result ≡ operation_of Enter (words line.old.rest.now) }
+    ensures { result ≡ operation_of Enter line.old }
 {
     let scope = NewScope {
         flags: ScopeFlags(line.next_number()?),
@@ -34,14 +33,14 @@ fn enter_scope(line: &mut Words) -> Result<Operation, LineError>
 }
 
 fn leave_scope(line: &mut Words) -> Result<Operation, LineError>
-    ensures { result ≡ operation_of Leave (words line.old.rest.now) }
+    ensures { result ≡ operation_of Leave line.old }
 {
     line.end()?;
     Ok(Operation::Run(Call::LeaveScope))
 }
 
 fn bind(line: &mut Words) -> Result<Operation, LineError>
-    ensures { result ≡ operation_of Bind (words line.old.rest.now) }
+    ensures { result ≡ operation_of Bind line.old }
 {
     let declaration = Declaration {
         kind: line.next_number()?,
@@ -56,7 +55,7 @@ fn bind(line: &mut Words) -> Result<Operation, LineError>
 }
 
 fn reference(line: &mut Words) -> Result<Operation, LineError>
-    ensures { result ≡ operation_of Refer (words line.old.rest.now) }
+    ensures { result ≡ operation_of Refer line.old }
 {
     let reference = NewReference {
         name: Name(line.next_number()?),
@@ -69,7 +68,7 @@ fn reference(line: &mut Words) -> Result<Operation, LineError>
 }
 
 fn resolve(line: &mut Words) -> Result<Operation, LineError>
-    ensures { result ≡ operation_of Resolve (words line.old.rest.now) }
+    ensures { result ≡ operation_of Resolve line.old }
 {
     let start = line.next_number()?;
     line.end()?;
@@ -77,15 +76,16 @@ fn resolve(line: &mut Words) -> Result<Operation, LineError>
 }
 
 fn resolve_all(line: &mut Words) -> Result<Operation, LineError>
-    ensures { result ≡ operation_of ResolveAll (words line.old.rest.now) }
+    ensures { result ≡ operation_of ResolveAll line.old }
 {
     line.end()?;
     Ok(Operation::Run(Call::ResolveAllReferences))
 }
 
 /// The operation of a verb, from the words behind it.
+// A match and no table: that would hold seven function pointers and their contracts.
 fn operation(verb: Verb, line: &mut Words) -> Result<Operation, LineError>
-    ensures { result ≡ operation_of verb (words line.old.rest.now) }
+    ensures { result ≡ operation_of verb line.old }
 {
     match verb {
         Verb::Set => setting(line),

@@ -32,6 +32,7 @@ pub fn number(word: &[u8], limit: u32) -> Result<u32, LineError>
 }
 
 /// The widths that the field of a line may have.
+// Three impls and no `TryFrom<u32>`: a field has the limit of its width, which no conversion tells.
 pub trait Field: Sized {
     ghost reads: { List ℕ → Result Self LineError };
 

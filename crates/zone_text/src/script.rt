@@ -12,7 +12,7 @@ use std::alloc::{AllocFailed, Global};
 /// The operations of a list.
 #[derive(Drop)]
 pub struct Script {
-    /// The bits of the setting, if the list begins with one.
+    /// The bits of the setting, if the list begins with one: any, as in an `Operation`.
     pub setting: Option<u8>,
     pub calls: Vec<Call>,
 }

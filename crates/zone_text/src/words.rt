@@ -1,5 +1,5 @@
 //! The words of a line, one after another.
-ghost use Rattle.std.specs.Prelude.{◌≡◌, ℕ};
+ghost use Rattle.std.specs.Prelude.{◌≡◌, ℕ, List};
 ghost use Rattle.std.specs.Iterator.{YieldsFirstRef, item_count};
 ghost use Rattle.zone_text.specs.Pieces.{words};
 ghost use Rattle.zone_text.specs.Fields.{first_as, others, ended};
@@ -7,19 +7,26 @@ ghost use Rattle.zone_text.specs.Fields.{first_as, others, ended};
 use crate::number::Field;
 use crate::operation::LineError;
 use crate::separator::{Separator, cut};
+use std::marker::Model;
 
-/// What is left of a line that has no comment.
+/// What is left of a line that has no comment, seen as its words.
 #[derive(Drop)]
 pub struct Words<'a> {
     pub rest: &'a [u8],
 }
 
+impl<'a> Model for Words<'a> {
+    ghost Value = { List (List ℕ) };
+
+    ghost view = { λ line. words line.rest.now };
+}
+
 impl<'a> Iterator for Words<'a> {
     type Item = &'a [u8];
 
-    ghost next_gives = { YieldsFirstRef (λ line. words line.rest.now) };
+    ghost next_gives = { YieldsFirstRef (λ left. left) };
 
-    ghost remaining = { item_count (λ line. words line.rest.now) };
+    ghost remaining = { item_count (λ left. left) };
 
     fn next(&mut self) -> Option<&'a [u8]> {
         let is_part = |byte: &u8| !Separator::Space.separates(*byte);
@@ -33,19 +40,17 @@ impl<'a> Iterator for Words<'a> {
 impl Words<'_> {
     /// The next word as a number of a field.
     pub fn next_number<T: Field>(&mut self) -> Result<T, LineError>
-        ensures value { result ≡ first_as T.reads (words self.old.rest.now) }
-        ensures rest { words self.new.rest.now ≡ others (words self.old.rest.now) }
+        ensures value { result ≡ first_as T.reads self.old }
+        ensures rest { self.new ≡ others self.old }
     {
-        match self.next() {
-            Some(word) => T::read(word),
-            None => Err(LineError::TooFewNumbers),
-        }
+        T::read(self.next().ok_or(LineError::TooFewNumbers)?)
     }
 
     /// That no word is left.
     pub fn end(&mut self) -> Result<(), LineError>
-        ensures { result ≡ ended (words self.old.rest.now) tt }
+        ensures { result ≡ ended self.old tt }
     {
+        // A match: the word that is there is the error.
         match self.next() {
             Some(_) => Err(LineError::TooManyWords),
             None => Ok(()),

@@ -7,7 +7,7 @@ ghost use Rattle.builder.specs.State.{view};
 use super::SemanticBuilder;
 use super::made::start;
 use declaring::dispatch::{declare_by_manner, reach_of};
-use kinds::checked::check;
+use kinds::checked::Checked;
 use model::call::{Counts, Declaration, NewReference, NewScope};
 use model::setting::Setting;
 use resolving::resolve::{resolve_all, resolve_from};
@@ -80,7 +80,7 @@ impl<B: Store<ScopeAndName>, H: Store<ScopeAndName>, R: Store<Name>> Binding
     }
 
     fn bind(&mut self, declaration: Declaration) -> Result<SymbolId, Refusal> {
-        let checked = check(declaration)?;
+        let checked = Checked::try_from(declaration)?;
         let names = &mut self.names;
         let reach = reach_of(&names.scoping, self.current, checked);
         names

@@ -74,6 +74,8 @@ impl<B: Store<ScopeAndName>, H: Store<ScopeAndName>, R: Store<Name>> SemanticBui
         self.names.scoping.reference(id)
     }
 
+    // Three reads of names, and four of a symbol's lists: each refuses an id that is absent by the read of its row, and then asks one store or list.
+
     /// The symbol that the name is bound to in the scope.
     pub fn binding(&self, scope: ScopeId, name: Name) -> Result<Option<SymbolId>, Refusal>
         ensures { result ≡ if_there (slice_get (view self.now).scopes scope.0) (λ _. Ok (symbol_at (binding (view self.now).names scope.0 name.0))) }

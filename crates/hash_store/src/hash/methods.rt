@@ -5,40 +5,63 @@ ghost use Rattle.hash_store.specs.Meaning.{pairs_of, capacity_of};
 ghost use Rattle.hash_store.specs.Slots.{is_full, matches, spot, steps, bounded, Unpassed, Nearer};
 
 use super::HashStore;
-use crate::probe::{find, movable, vacant};
+use crate::probe::{behind, distance};
 use crate::slot::Slot;
 use stores::key::Key;
 use stores::store::{PairSet, Store};
 use tables::refusal::Refusal;
 
 impl<'a, K: Key> HashStore<'a, K> {
-    // The searches need slots alone; these say of a store what they say of slots.
-
     /// The slot that holds the pair of `key`.
     fn place(&self, key: K) -> Option<usize>
         ensures within { IfSome result (λ i. i < length self.now.slots.now) }
         ensures place { MatchOption result ((j : ℕ) → matches K.eq (K.Key.hash key) key (slice_index_or self.now.slots.now j Empty) ≡ false) (λ i. matches K.eq (K.Key.hash key) key (slice_index_or self.now.slots.now i Empty) ≡ true) }
     {
-        find(&*self.slots, key)
+        let n = self.slots.len();
+        let hash = key.hash_number();
+        let home = hash as usize % n;
+        let slots = &*self.slots;
+        (0..n)
+            .map(|step| behind(home, step, n))
+            .take_while(|at| slots.get(*at).is_some_and(|slot| !slot.is_empty()))
+            .find(|at| slots.get(*at).is_some_and(|slot| slot.holds(key, hash)))
     }
 
-    /// The slot that a new pair of a key with this hash number takes.
+    /// The first slot from the home of `hash` on that a new pair can take.
     fn room(&self, hash: u32) -> Option<usize>
         ensures within { IfSome result (λ i. i < length self.now.slots.now) }
         ensures free { IfSome result (λ i. is_full (slice_index_or self.now.slots.now i Empty) ≡ false) }
         ensures way { MatchOption result ((j : ℕ) → j < length self.now.slots.now → is_full (slice_index_or self.now.slots.now j Empty) ≡ true) (λ i. (t : ℕ) → t < steps (length self.now.slots.now) (hash % length self.now.slots.now) i → is_full (slice_index_or self.now.slots.now (spot (length self.now.slots.now) (hash % length self.now.slots.now) t) Empty) ≡ true) }
     {
-        vacant(&*self.slots, hash)
+        let slots = &*self.slots;
+        let home = hash as usize % slots.len();
+        (0..slots.len())
+            .map(|turn| behind(home, turn, slots.len()))
+            .find(|at| slots.get(*at).is_some_and(|slot| !slot.is_full()))
     }
 
-    /// The slot whose pair may move into `hole`.
+    /// The first slot behind `hole` whose pair may move there, which brings it nearer to its home.
     fn filler(&self, hole: usize) -> Option<usize>
         requires { hole < length self.now.slots.now }
         ensures within { IfSome result (λ i. i < length self.now.slots.now) }
         ensures full { IfSome result (λ i. is_full (slice_index_or self.now.slots.now i Empty) ≡ true) }
         ensures nearer { MatchOption result (Unpassed self.now.slots.now hole) (λ i. Nearer self.now.slots.now hole i) }
     {
-        movable(&*self.slots, hole)
+        let n = self.slots.len();
+        // No chain: a pair may move if it is `step` places from its home, so each adapter would carry the step beside the place.
+        for step in 1..n {
+            let at = behind(hole, step, n);
+            match self.slots[at] {
+                Slot::Empty => return None,
+                Slot::Deleted => {}
+                Slot::Full { hash, .. } => {
+                    if step <= distance(hash as usize % n, at, n) {
+                        return Some(at);
+                    }
+                }
+            }
+        }
+        None
     }
 
     /// Moves a pair into the hole that a removed one left, then one into the hole that this leaves, until a hole can stay empty.
@@ -83,9 +106,7 @@ impl<'a, K: Key> Store<K> for HashStore<'a, K> {
         if let Some(i) = self.place(key) {
             self.slots[i] = Slot::Full { key, hash, number };
         } else {
-            let Some(free) = self.room(hash) else {
-                return Err(Refusal::StoreFull);
-            };
+            let free = self.room(hash).ok_or(Refusal::StoreFull)?;
             self.slots[free] = Slot::Full { key, hash, number };
             self.count += 1;
         }
@@ -101,18 +122,7 @@ impl<'a, K: Key> Store<K> for HashStore<'a, K> {
     }
 
     fn clear(&mut self) {
-        if self.count == 0 {
-            return;
-        }
-        // First the pairs go, since an empty slot would cut others off from their homes.
-        // By an index, since a slot and the count change together.
-        for i in 0..self.slots.len() {
-            let slot = self.slots[i];
-            if slot.is_full() {
-                self.slots[i] = Slot::Deleted;
-                self.count -= 1;
-            }
-        }
         self.slots.fill(Slot::Empty);
+        self.count = 0;
     }
 }

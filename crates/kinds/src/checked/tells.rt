@@ -14,27 +14,30 @@ use tables::flags::{FlagSet, SymbolFlags};
 use tables::refusal::Refusal;
 use tables::span::Span;
 
-/// The declaration, unless its kind, modifiers or span refuse it.
-// A function and no `TryFrom`: its name says what is done, and its promise is a clause of its own.
-pub fn check(declaration: Declaration) -> Result<Checked, Refusal>
-    ensures { Checks declaration result }
-{
-    let kind = Kind::try_from(declaration.kind)?;
-    let modifiers = Modifiers(declaration.modifiers);
-    if !modifiers.is_within(kind.row().modifiers) {
-        return Err(Refusal::ModifierNotOfKind);
+impl TryFrom<Declaration> for Checked {
+    type Error = Refusal;
+
+    ghost try_from_gives = { Checks };
+
+    /// The declaration, unless its kind, modifiers or span refuse it.
+    fn try_from(declaration: Declaration) -> Result<Checked, Refusal> {
+        let kind = Kind::try_from(declaration.kind)?;
+        let modifiers = Modifiers(declaration.modifiers);
+        if !modifiers.is_within(kind.row().modifiers) {
+            return Err(Refusal::ModifierNotOfKind);
+        }
+        // By `else`: after `ok_or(..)?` the case of no span stayed open, with search, grind and a lemma of its own.
+        let Some(span) = Span::new(declaration.start, declaration.end) else {
+            return Err(Refusal::SpanReversed);
+        };
+        Ok(Checked {
+            kind,
+            modifiers,
+            name: declaration.name,
+            span,
+            node: declaration.node,
+        })
     }
-    // By `else`, since after `ok_or(..)?` the check leaves the case of no span to a proof by hand.
-    let Some(span) = Span::new(declaration.start, declaration.end) else {
-        return Err(Refusal::SpanReversed);
-    };
-    Ok(Checked {
-        kind,
-        modifiers,
-        name: declaration.name,
-        span,
-        node: declaration.node,
-    })
 }
 
 impl Checked {

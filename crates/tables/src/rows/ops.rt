@@ -40,10 +40,7 @@ impl<T: Copy, const N: usize> Rows<T, N> {
         ensures after { self.new ≡ slice_set self.old i row }
         ensures few { length self.new ≤ N }
     {
-        let Some(place) = self.items.get_mut(i) else {
-            return Err(Refusal::Absent);
-        };
-        *place = row;
+        *self.items.get_mut(i).ok_or(Refusal::Absent)? = row;
         Ok(())
     }
 

@@ -54,6 +54,7 @@ impl Scoping {
     }
 
     // One name for each table, since it fixes the refusal and the type of the id; what they share is `Rows`.
+    // Ids and places are cast where they meet: a method for each type of id would be longer.
 
     /// A scope more, whose parent is there.
     pub fn add_scope(&mut self, row: ScopeRow) -> Result<ScopeId, Refusal>

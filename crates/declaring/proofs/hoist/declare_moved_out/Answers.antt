@@ -9,7 +9,7 @@ use Rattle.model.specs.Declaring.{Declared, declare_moved_out}
 use Rattle.kinds.specs.Telling.{plain}
 use Rattle.lookup.specs.NamesIn.{names_in}
 use Rattle.declaring.proofs.Kept.{move_hoists, declare_hoists, moved_room}
-use Rattle.declaring.proofs.Stored.{stored}
+use Rattle.stores.proofs.Rooms.{put_room}
 use Rattle.declaring.proofs.hoist.declare_moved_out.Goals as goal
 
 pub move_binding-requires : goal.move_binding-requires
@@ -27,5 +27,5 @@ returns-clause-names g c =
     let kept = ap (λ (p : Pairs ScopeAndName). p.size) (move_hoists (names_in g.B.PairSet.pairs g.H.PairSet.pairs c.declare_symbol_on_scope-symbol.new.names) c.args.current.0 c.var_scope-to.result.0 c.args.d.name.0 s) in
     let as_before = ap (λ (p : Pairs ScopeAndName). p.size) (declare_hoists (plain c.args.d) c.args.current.0 (names_in g.B.PairSet.pairs g.H.PairSet.pairs c.args.names.now)) in
     let room = c.requires.hoisted in
-    let pairs = stored same_scope_and_name (g.H.PairSet.pairs h) (place c.args.current.0 c.args.d.name.0) s _ (g.H.PairSet.bounds h) (omega arith) in
+    let pairs = put_room same_scope_and_name (g.H.PairSet.pairs h) (place c.args.current.0 c.args.d.name.0) s _ (g.H.PairSet.bounds h) (omega arith) in
     grind (arith, common_steps)

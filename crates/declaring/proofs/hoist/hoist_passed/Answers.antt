@@ -6,7 +6,7 @@ use Rattle.model.specs.Scopes.{is_var}
 use Rattle.model.specs.Declaring.{hoist_all}
 use Rattle.model.specs.View.{names_of}
 use Rattle.lookup.specs.Ancestry.{ancestors_left}
-use Rattle.declaring.proofs.Stored.{stored}
+use Rattle.stores.proofs.Rooms.{put_room}
 use Rattle.declaring.proofs.hoist.hoist_passed.Goals as goal
 
 pub loop-at-preserved : goal.loop-at-preserved
@@ -16,7 +16,7 @@ loop-at-preserved g c =
     let h = c.loop-at.hoisting in
     let room = c.loop-at.invariant.room in
     let more : length (way (ancestors_left c.loop-at.at-iterator)) ≡ suc (length (way (ancestors_left c.next.new.self))) = grind (arith, common_steps) in
-    let pairs = stored same_scope_and_name (g.H.PairSet.pairs h) (place c.in-Some.at.0 c.args.name.0) c.args.symbol.0 _ (g.H.PairSet.bounds h) (omega arith) in
+    let pairs = put_room same_scope_and_name (g.H.PairSet.pairs h) (place c.in-Some.at.0 c.args.name.0) c.args.symbol.0 _ (g.H.PairSet.bounds h) (omega arith) in
     let here : way (ancestors_left c.loop-at.at-iterator) ≡ c.in-Some.at.0 ∷ way (ancestors_left c.next.new.self) = grind (arith, common_steps) in
     let hoisted = c.insert.ensures.after ∙ pairs in
     let on = ap (λ ps. hoist_all (names_of c.args.names.now.scoping (g.B.PairSet.pairs c.args.names.now.bindings) (g.H.PairSet.pairs h)) ps c.args.name.0 c.args.symbol.0) here in

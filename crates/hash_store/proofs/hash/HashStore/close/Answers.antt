@@ -6,6 +6,8 @@ use Rattle.hash_store.proofs.Kept.{taken_same, unlike_emptied}
 use Rattle.hash_store.proofs.Moved.{moved_taken, moved_settled, moved_unlike, moved_strain, moved_hashed, moved_free, emptied_settled, emptied_hashed}
 use Rattle.hash_store.proofs.hash.HashStore.close.Goals as goal
 
+-- Each answer cites another lemma of the move: what they share is the names of its arguments.
+
 pub invariant_of-self : goal.invariant_of-self
 invariant_of-self g c =
     let s = c.loop-at.self in

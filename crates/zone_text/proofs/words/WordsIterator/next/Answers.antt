@@ -9,14 +9,16 @@ use Rattle.zone_text.proofs.words.WordsIterator.next.Goals as goal
 
 pub returns-in_err-start-clause-steps : goal.returns-in_err-start-clause-steps
 returns-in_err-start-clause-steps c =
-    let found : c.position.result ≡ position (λ b. not (separates Space b)) c.args.self.now.rest.now = position_from_yields_List (λ b. not (separates Space b)) _ _ c.position.result c.position.ensures.ran (YieldsList-from_slice c.args.self.now.rest.now cc) (λ x b q k. search (rules, tests)) in
-    let none = none_filled (separates Space) c.args.self.now.rest.now (sym c.in_err-start.was ∙ found) in
-    rw c.from_residual.ensures (none, none)
+    let line = c.self.inside.rest.now in
+    let found : c.position.result ≡ position (λ b. not (separates Space b)) line = position_from_yields_List (λ b. not (separates Space b)) _ _ c.position.result c.position.ensures.ran (YieldsList-from_slice line cc) (λ x b q k. search (rules, tests)) in
+    let none = none_filled (separates Space) line (sym c.in_err-start.was ∙ found) in
+    rw (c.from_residual.ensures, ← c.self.view_is) (none, none)
 
 -- the line's first word is the one behind the spaces, and the others are left
 pub returns : goal.returns
 returns c =
-    let found : c.position.result ≡ position (λ b. not (separates Space b)) c.args.self.now.rest.now = position_from_yields_List (λ b. not (separates Space b)) _ _ c.position.result c.position.ensures.ran (YieldsList-from_slice c.args.self.now.rest.now cc) (λ x b q k. search (rules, tests)) in
-    let first : words c.args.self.now.rest.now ≡ c.cut.result.0.now ∷ words c.cut.result.1.now = first_filled (separates Space) c.args.self.now.rest.now c.in_ok-start.start (sym c.in_ok-start.was ∙ found) ∙ sym (λ i. c.cut.ensures.front i ∷ words (c.cut.ensures.back i)) in
-    let fewer : length (words c.cut.result.1.now) < length (words c.args.self.now.rest.now) = omega (arith, ap length first) in
-    record { steps = first; goes = search rules }
+    let line = c.self.inside.rest.now in
+    let found : c.position.result ≡ position (λ b. not (separates Space b)) line = position_from_yields_List (λ b. not (separates Space b)) _ _ c.position.result c.position.ensures.ran (YieldsList-from_slice line cc) (λ x b q k. search (rules, tests)) in
+    let first : words line ≡ c.cut.result.0.now ∷ words c.cut.result.1.now = first_filled (separates Space) line c.in_ok-start.start (sym c.in_ok-start.was ∙ found) ∙ sym (λ i. c.cut.ensures.front i ∷ words (c.cut.ensures.back i)) in
+    let fewer : length (words c.cut.result.1.now) < length (words line) = omega (arith, ap length first) in
+    rw (← c.self.view_is) (record { steps = first; goes = search rules })

@@ -4,6 +4,7 @@ use Rattle.builder.proofs.KeptUses.{kept_as, resolve_end_keeps}
 use Rattle.builder.proofs.Kept.{kept_resolved}
 use Rattle.builder.proofs.builder.calls.SemanticBuilderBinding.resolve_all_references.Goals as goal
 
+-- as at the end of a scope, by the other lemma
 pub invariant_of-self-2 : goal.invariant_of-self-2
 invariant_of-self-2 g c =
     let s = c.args.self.now in

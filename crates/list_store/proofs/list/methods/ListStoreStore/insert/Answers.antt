@@ -1,10 +1,9 @@
-use Rattle.std.proofs.Common.{cond, length, get_or, Ok, Err, sym, refl, ap, ◌∙◌, arith}
+use Rattle.std.proofs.Common.{true, false, length, get_or, refl, ap, ◌∙◌, arith}
 use Rattle.std.proofs.lemmas.List.{get_or_default, length-set}
 use Rattle.std.proofs.lemmas.Bool.{eq-eqb, ne_eqb}
-use Rattle.tables.specs.declared.refusal.Refusal.TheVariants.{StoreFull}
 use Rattle.list_store.specs.declared.entry.Entry.{Entry}
 use Rattle.list_store.specs.Found.{listed}
-use Rattle.stores.specs.Pairs.{put}
+use Rattle.stores.proofs.Rooms.{by_test}
 use Rattle.list_store.proofs.Listed.{apart_set, apart_push, hit_within, full_hit, full_missing, put_set, put_push}
 use Rattle.list_store.proofs.list.methods.ListStoreStore.insert.Goals as goal
 
@@ -36,10 +35,11 @@ returns-in-Some g c =
     let y : Entry g.row.K.Denot = record { key = (get_or xs i x).key; number = c.args.number } in
     let l = hit_within e g.met.K.Eq.laws s.count xs c.args.key s.within i c.in-Some.ensures in
     let f = full_hit e g.met.K.Eq.laws s.count xs c.args.key s.within i c.in-Some.ensures (length xs) in
+    let told = by_test e (listed e s.count xs) c.args.key c.args.number (length xs) false f in
     record {
-      answer = ap (λ b. cond b (Err StoreFull) (Ok tt)) (sym f);
+      answer = told.0;
       after = put_set e g.met.K.Eq.laws s.count xs c.args.key s.within i c.in-Some.ensures y (ap (λ z. z.key) (get_or_default xs i x y (omega (arith, s.within))))
-          ∙ ap (λ b. cond b (listed e s.count xs) (put e (listed e s.count xs) c.args.key c.args.number)) (sym f);
+          ∙ told.1;
       places = length-set xs i y;
     }
 
@@ -49,9 +49,10 @@ returns-then-self g c =
     let xs = s.entries.now in
     let e = g.K.PartialEq.eq in
     let f = full_missing e g.met.K.Eq.laws s.count xs c.args.key s.within c.in_default.ensures (length xs) ∙ eq-eqb s.count (length xs) c.if-self.true in
+    let told = by_test e (listed e s.count xs) c.args.key c.args.number (length xs) true f in
     record {
-      answer = ap (λ b. cond b (Err StoreFull) (Ok tt)) (sym f);
-      after = ap (λ b. cond b (listed e s.count xs) (put e (listed e s.count xs) c.args.key c.args.number)) (sym f);
+      answer = told.0;
+      after = told.1;
       places = refl;
     }
 
@@ -61,9 +62,10 @@ returns-else-self g c =
     let xs = s.entries.now in
     let e = g.K.PartialEq.eq in
     let f = full_missing e g.met.K.Eq.laws s.count xs c.args.key s.within c.in_default.ensures (length xs) ∙ ne_eqb s.count (length xs) c.if-self.false in
+    let told = by_test e (listed e s.count xs) c.args.key c.args.number (length xs) false f in
     record {
-      answer = ap (λ b. cond b (Err StoreFull) (Ok tt)) (sym f);
+      answer = told.0;
       after = put_push e g.met.K.Eq.laws s.count xs c.args.key s.within c.in_default.ensures c.args.number (omega arith)
-          ∙ ap (λ b. cond b (listed e s.count xs) (put e (listed e s.count xs) c.args.key c.args.number)) (sym f);
+          ∙ told.1;
       places = length-set xs s.count (record { key = c.args.key; number = c.args.number });
     }

@@ -1,11 +1,6 @@
-use Rattle.std.proofs.Common.{◌-◌, refl, arith}
-use Rattle.list_store.proofs.Listed.{apart_fewer, apart_removed, drop_removed, drop_missing}
+use Rattle.std.proofs.Common.{refl, arith}
+use Rattle.list_store.proofs.Listed.{apart_removed, drop_removed, drop_missing}
 use Rattle.list_store.proofs.list.methods.ListStoreStore.remove.Goals as goal
-
-pub invariant_of-self : goal.invariant_of-self
-invariant_of-self g c =
-    let s = c.args.self.now in
-    record { enough = omega arith; within = omega arith; different = apart_fewer g.K.PartialEq.eq s.count (s.count - 1) s.entries.now (omega arith) s.within s.different }
 
 pub invariant_of-self-in-Some : goal.invariant_of-self-in-Some
 invariant_of-self-in-Some g c =
