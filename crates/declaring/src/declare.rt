@@ -3,10 +3,10 @@
 ghost use Rattle.std.specs.Prelude.{◌≡◌, ◌+◌, ◌<◌, ◌≤◌, length};
 ghost use Rattle.tables.specs.Limits.{most_symbols, most_redeclarations, most_conflicts};
 ghost use Rattle.stores.specs.Keys.{same_scope_and_name};
-ghost use Rattle.stores.specs.Pairs.{drop_pair, least_capacity};
+ghost use Rattle.stores.specs.Pairs.{Pairs, drop_pair, least_capacity};
 ghost use Rattle.model.specs.Basics.{maybe, place, symbol_number};
 ghost use Rattle.model.specs.Declaring.{found, complain, add_symbol_redeclaration, unite, declare_shadow_symbol, declare_symbol_on_scope, move_binding};
-ghost use Rattle.model.specs.View.{beside_names};
+ghost use Rattle.model.specs.View.{names_of, beside_names};
 ghost use Rattle.kinds.specs.Telling.{plain};
 ghost use Rattle.lookup.specs.NamesIn.{names_in, declared_in};
 ghost use Rattle.declaring.specs.Fitting.{Fits};
@@ -20,19 +20,22 @@ use stores::store::Store;
 use tables::flags::{FlagSet, SymbolFlags};
 use tables::id::{Name, ScopeId, SymbolId};
 use tables::row::SymbolRow;
+use tables::scoping::Scoping;
 
 /// The symbol beside which a name is declared: its binding in the scope, else its hoisted variable, and never a function expression.
 #[tactic(auto, unfolding(model::specs::Declaring::found))]
-fn found_symbol<B: Store<ScopeAndName>, H: Store<ScopeAndName>>(
-    names: &NameTables<B, H>,
+pub fn found_symbol<B: Store<ScopeAndName>, H: Store<ScopeAndName>>(
+    scoping: &Scoping,
+    bindings: &B,
+    hoisting: &H,
     scope: ScopeId,
     name: Name,
 ) -> Option<SymbolId>
-    ensures { symbol_number result ≡ found (names_in B.PairSet.pairs H.PairSet.pairs names.now) scope.0 name.0 }
+    ensures { symbol_number result ≡ found (names_of scoping.now (B.PairSet.pairs bindings.now) (H.PairSet.pairs hoisting.now)) scope.0 name.0 }
 {
-    let bound = binding_in(&names.bindings, scope, name);
-    let symbol = bound.or_else(|| binding_in(&names.hoisting, scope, name))?;
-    let flags = names.scoping.symbol_or_empty(symbol).flags;
+    let bound = binding_in(bindings, scope, name);
+    let symbol = bound.or_else(|| binding_in(hoisting, scope, name))?;
+    let flags = scoping.symbol_or_empty(symbol).flags;
     (!flags.intersects(SymbolFlags::FUNCTION_EXPRESSION)).then_some(symbol)
 }
 
@@ -64,7 +67,13 @@ pub(crate) fn check_redeclaration<B: Store<ScopeAndName>, H: Store<ScopeAndName>
     ensures names { names_in B.PairSet.pairs H.PairSet.pairs names.new ≡ maybe (symbol_number result) (names_in B.PairSet.pairs H.PairSet.pairs names.old) (complain (plain d) (names_in B.PairSet.pairs H.PairSet.pairs names.old)) }
     ensures rest { beside_names names.new.scoping ≡ beside_names names.old.scoping }
 {
-    let symbol = found_symbol(names, scope, d.name)?;
+    let symbol = found_symbol(
+        &names.scoping,
+        &names.bindings,
+        &names.hoisting,
+        scope,
+        d.name,
+    )?;
     complain_of(names, symbol, d);
     Some(symbol)
 }
@@ -89,17 +98,13 @@ pub(crate) fn add_symbol_redeclaration<B: Store<ScopeAndName>, H: Store<ScopeAnd
 
 /// Gives a symbol the flags of one more declaration.
 #[tactic(auto, unfolding(model::specs::Declaring::unite))]
-fn union_symbol_flags<B: Store<ScopeAndName>, H: Store<ScopeAndName>>(
-    names: &mut NameTables<B, H>,
-    symbol: SymbolId,
-    d: Told,
-)
-    ensures names { names_in B.PairSet.pairs H.PairSet.pairs names.new ≡ unite (plain d) (names_in B.PairSet.pairs H.PairSet.pairs names.old) symbol.0 }
-    ensures rest { beside_names names.new.scoping ≡ beside_names names.old.scoping }
+pub fn union_symbol_flags(scoping: &mut Scoping, symbol: SymbolId, d: Told)
+    ensures names { (b h : Pairs ScopeAndName) → names_of scoping.new b h ≡ unite (plain d) (names_of scoping.old b h) symbol.0 }
+    ensures rest { beside_names scoping.new ≡ beside_names scoping.old }
 {
-    let row = names.scoping.symbol_or_empty(symbol);
+    let row = scoping.symbol_or_empty(symbol);
     let flags = row.flags.union(d.includes);
-    let _ = names.scoping.set_symbol(symbol, SymbolRow { flags, ..row });
+    let _ = scoping.set_symbol(symbol, SymbolRow { flags, ..row });
 }
 
 /// Makes a new symbol and binds it in the scope, over any other.
@@ -139,7 +144,7 @@ pub(crate) fn declare_symbol_on_scope<B: Store<ScopeAndName>, H: Store<ScopeAndN
     match check_redeclaration(names, scope, d) {
         Some(symbol) => {
             add_symbol_redeclaration(names, symbol, d);
-            union_symbol_flags(names, symbol, d);
+            union_symbol_flags(&mut names.scoping, symbol, d);
             symbol
         }
         None => declare_shadow_symbol(names, scope, d),

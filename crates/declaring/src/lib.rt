@@ -1,6 +1,6 @@
 //! What a declaration does to the names. Its functions require the room that the call has tested.
 #![tactic(auto)]
 
-mod declare;
+pub mod declare;
 pub mod dispatch;
 mod hoist;

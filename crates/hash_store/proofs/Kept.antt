@@ -254,6 +254,9 @@ module _ {K : Type 0} (xs : List (Slot K)) where
   pub hashed_unfull : ((j : ℕ) → is_full (get_or xs j Empty) ≡ false) → (e : K → K → Bool) (hash : K → ℕ) → hashed e hash 0 xs ≡ no_pairs
   hashed_unfull none e hash = same_pairs (λ q. held_none e hash q xs (λ j. unfull e (hash q) q (get_or xs j Empty) (none j))) refl
 
+  pub unfull_taken : taken xs ≡ 0 → (j : ℕ) → is_full (get_or xs j Empty) ≡ false
+  unfull_taken z j = elim (cases_Bool (is_full (get_or xs j Empty))) [ inr f ↦ f | inl t ↦ let r = taken_some xs j t in absurd (omega arith) ]
+
   module _ (n : ℕ) (is : xs ≡ replicate n Empty) where
     all_empty : (j : ℕ) → get_or xs j Empty ≡ Empty
     all_empty j = ap (λ ys. get_or ys j Empty) is ∙ by n j

@@ -1,5 +1,4 @@
 mod Kept
 mod Moved
 mod Ring
-mod Searches
 mod Slotted

@@ -1,1 +1,2 @@
 mod Climbs
+pub mod BoundNames

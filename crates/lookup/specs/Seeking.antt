@@ -2,13 +2,18 @@
 use Rattle.std.specs.Prelude.{ℕ, Bool, false, cond, List, [], ◌∷◌, Some, None, Option, ◌==◌}
 use Rattle.tables.specs.declared.id.ScopeId.{ScopeId}
 use Rattle.tables.specs.declared.row.ScopeRow.{ScopeRow}
-use Rattle.stores.specs.Pairs.{Pairs}
+use Rattle.tables.specs.declared.row.SymbolRow.{SymbolRow}
+use Rattle.stores.specs.Pairs.{Pairs, no_pairs}
 use Rattle.stores.specs.declared.key.ScopeAndName.{ScopeAndName}
 use Rattle.model.specs.Basics.{maybe, place, the_symbol}
 use Rattle.model.specs.State.{Names}
 use Rattle.model.specs.Resolving.{ends_at, serving_in}
 use Rattle.lookup.specs.declared.sought.Sought.{Sought}
 use Rattle.lookup.specs.declared.sought.Sought.TheVariants.{Found, Ended, Passed}
+
+-- what a search reads of the names
+abbrev pub bound_names : List SymbolRow → Pairs ScopeAndName → Names
+bound_names symbols bindings = record { symbols = symbols; bindings = bindings; hoisting = no_pairs; redeclarations = []; conflicts = [] }
 
 -- a search up to a scope, if one is given, looks no further
 abbrev pub is_last : Option ScopeId → ℕ → Bool

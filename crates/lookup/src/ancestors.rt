@@ -8,11 +8,18 @@ use crate::chain::parent;
 use tables::id::ScopeId;
 use tables::scoping::Scoping;
 
+/// Which scope a walk comes to next: this one, or the parent of one that it has passed. So a parent is read only if it is asked for.
+#[derive(Clone, Copy)]
+enum Walk {
+    At(ScopeId),
+    Past(ScopeId),
+}
+
 /// The scopes that are left of a walk to the root.
 #[derive(Drop)]
 pub struct Ancestors<'a> {
     scoping: &'a Scoping,
-    next: Option<ScopeId>,
+    walk: Walk,
 }
 
 /// A scope and its ancestors, up to the root.
@@ -21,7 +28,7 @@ pub fn ancestors_from(scoping: &Scoping, from: ScopeId) -> Ancestors<'_>
 {
     Ancestors {
         scoping,
-        next: Some(from),
+        walk: Walk::At(from),
     }
 }
 
@@ -34,8 +41,13 @@ impl Iterator for Ancestors<'_> {
 
     #[tactic(auto, using(model::proofs::Chains::chain_on))]
     fn next(&mut self) -> Option<ScopeId> {
-        let here = self.next?;
-        self.next = parent(self.scoping, here);
+        // For the fact alone that the rows are a tree.
+        let _rows = self.scoping.scopes();
+        let here = match self.walk {
+            Walk::At(scope) => scope,
+            Walk::Past(scope) => parent(self.scoping, scope)?,
+        };
+        self.walk = Walk::Past(here);
         Some(here)
     }
 }

@@ -1,11 +1,12 @@
 //! How a reference finds its symbol along its lookup chain.
 // Name and flags are apart: they come from two rows, and the definitions take them so.
 ghost use Rattle.std.specs.Prelude.{◌≡◌};
+ghost use Rattle.stores.specs.Pairs.{no_pairs};
 ghost use Rattle.model.specs.Basics.{place, symbol_number};
 ghost use Rattle.model.specs.Scopes.{chain, is_below};
 ghost use Rattle.model.specs.Resolving.{can_resolve, resolved_flags, of_arguments, ends_at, serves, serving_in};
 ghost use Rattle.lookup.specs.NamesIn.{names_in};
-ghost use Rattle.lookup.specs.Seeking.{seek, first_binding};
+ghost use Rattle.lookup.specs.Seeking.{bound_names, seek, first_binding};
 
 use crate::ancestors::ancestors_from;
 use crate::name_tables::NameTables;
@@ -87,23 +88,86 @@ pub fn scope_is_descendant_of(scoping: &Scoping, scope: ScopeId, here: ScopeId) 
     ancestors_from(scoping, scope).any(|at| at == here)
 }
 
+/// Whether the symbol serves the reference: the name of a function expression is no `arguments`.
+pub fn serves(scoping: &Scoping, name: Name, flags: ReferenceFlags, symbol: SymbolId) -> bool
+    ensures { result ≡ serves (bound_names scoping.now.symbols no_pairs) name.0 flags.0 symbol.0 }
+{
+    let symbol_flags = scoping.symbol_or_empty(symbol).flags;
+    can_resolve(flags, symbol_flags)
+        && !(is_of_arguments(name, flags)
+            && symbol_flags.intersects(SymbolFlags::FUNCTION_EXPRESSION))
+}
+
+/// The symbol that the name is bound to in the scope, if it serves.
+pub fn serving_in<B: Store<ScopeAndName>>(
+    scoping: &Scoping,
+    bindings: &B,
+    name: Name,
+    flags: ReferenceFlags,
+    scope: ScopeId,
+) -> Option<SymbolId>
+    ensures { symbol_number result ≡ serving_in (bound_names scoping.now.symbols (B.PairSet.pairs bindings.now)) name.0 flags.0 scope.0 }
+{
+    let symbol = binding_in(bindings, scope, name)?;
+    serves(scoping, name, flags, symbol).then_some(symbol)
+}
+
+/// Searches the lookup chain of a reference from a scope on, up to another if one is given.
+pub fn search_chain<B: Store<ScopeAndName>>(
+    scoping: &Scoping,
+    bindings: &B,
+    name: Name,
+    flags: ReferenceFlags,
+    from: ScopeId,
+    upto: Option<ScopeId>,
+) -> Sought
+    ensures { result ≡ seek scoping.now.scopes (bound_names scoping.now.symbols (B.PairSet.pairs bindings.now)) name.0 flags.0 upto (chain scoping.now.scopes from.0) }
+{
+    for at in ancestors_from(scoping, from) {
+        if let Some(symbol) = serving_in(scoping, bindings, name, flags, at) {
+            return Sought::Found(symbol);
+        }
+        if ends_at(scoping, name, flags, at) {
+            return Sought::Ended;
+        }
+        if upto == Some(at) {
+            return Sought::Passed;
+        }
+    }
+    Sought::Passed
+}
+
+/// The first binding of the name in a scope or an ancestor, whatever its symbol.
+pub fn find_binding<B: Store<ScopeAndName>>(
+    scoping: &Scoping,
+    bindings: &B,
+    scope: ScopeId,
+    name: Name,
+) -> Option<SymbolId>
+    ensures { symbol_number result ≡ first_binding (B.PairSet.pairs bindings.now) name.0 (chain scoping.now.scopes scope.0) }
+{
+    for at in ancestors_from(scoping, scope) {
+        if let Some(symbol) = binding_in(bindings, at, name) {
+            return Some(symbol);
+        }
+    }
+    None
+}
+
+// The same of tables and stores that stand together.
 impl<B: Store<ScopeAndName>, H: Store<ScopeAndName>> NameTables<B, H> {
-    /// Whether the symbol serves the reference: the name of a function expression is no `arguments`.
+    /// Whether the symbol serves the reference.
     pub fn serves(&self, name: Name, flags: ReferenceFlags, symbol: SymbolId) -> bool
         ensures { result ≡ serves (names_in B.PairSet.pairs H.PairSet.pairs self.now) name.0 flags.0 symbol.0 }
     {
-        let symbol_flags = self.scoping.symbol_or_empty(symbol).flags;
-        can_resolve(flags, symbol_flags)
-            && !(is_of_arguments(name, flags)
-                && symbol_flags.intersects(SymbolFlags::FUNCTION_EXPRESSION))
+        serves(&self.scoping, name, flags, symbol)
     }
 
     /// The symbol that the name is bound to in the scope, if it serves.
     pub fn serving_in(&self, name: Name, flags: ReferenceFlags, scope: ScopeId) -> Option<SymbolId>
         ensures { symbol_number result ≡ serving_in (names_in B.PairSet.pairs H.PairSet.pairs self.now) name.0 flags.0 scope.0 }
     {
-        let symbol = binding_in(&self.bindings, scope, name)?;
-        self.serves(name, flags, symbol).then_some(symbol)
+        serving_in(&self.scoping, &self.bindings, name, flags, scope)
     }
 
     /// Searches the lookup chain of a reference from a scope on, up to another if one is given.
@@ -116,29 +180,13 @@ impl<B: Store<ScopeAndName>, H: Store<ScopeAndName>> NameTables<B, H> {
     ) -> Sought
         ensures { result ≡ seek self.now.scoping.scopes (names_in B.PairSet.pairs H.PairSet.pairs self.now) name.0 flags.0 upto (chain self.now.scoping.scopes from.0) }
     {
-        for at in ancestors_from(&self.scoping, from) {
-            if let Some(symbol) = self.serving_in(name, flags, at) {
-                return Sought::Found(symbol);
-            }
-            if ends_at(&self.scoping, name, flags, at) {
-                return Sought::Ended;
-            }
-            if upto == Some(at) {
-                return Sought::Passed;
-            }
-        }
-        Sought::Passed
+        search_chain(&self.scoping, &self.bindings, name, flags, from, upto)
     }
 
     /// The first binding of the name in a scope or an ancestor, whatever its symbol.
     pub fn find_binding(&self, scope: ScopeId, name: Name) -> Option<SymbolId>
         ensures { symbol_number result ≡ first_binding (B.PairSet.pairs self.now.bindings) name.0 (chain self.now.scoping.scopes scope.0) }
     {
-        for at in ancestors_from(&self.scoping, scope) {
-            if let Some(symbol) = binding_in(&self.bindings, at, name) {
-                return Some(symbol);
-            }
-        }
-        None
+        find_binding(&self.scoping, &self.bindings, scope, name)
     }
 }

@@ -50,19 +50,20 @@ unfolding fate_here fate_at_end
 fate_by_references (Some end) rows nm us vs e q = cc
 fate_by_references None rows nm us vs e q = cc
 
-module _ (end : Option EndOfScope) (bindings hoisting : Pairs ScopeAndName) (start : ℕ) (old : Contents) (roots : Pairs Name) where
-  abbrev the_names : Contents → Names
-  the_names c = names_of c bindings hoisting
+module _ (end : Option EndOfScope) (bindings : Pairs ScopeAndName) (start : ℕ) (old : Contents) (roots : Pairs Name) where
+  -- the machine, with any hoisted variables
+  abbrev the_names : Pairs ScopeAndName → Contents → Names
+  the_names h c = names_of c bindings h
 
-  abbrev machine_fate : Uses → UnresolvedReference → ModelFate
-  machine_fate = fate_in end old.scopes (the_names old)
+  abbrev machine_fate : Pairs ScopeAndName → Uses → UnresolvedReference → ModelFate
+  machine_fate h = fate_in end old.scopes (the_names h old)
 
-  abbrev settled_from : Uses → List UnresolvedReference → Uses
-  settled_from = settle_all (the_names old) machine_fate
+  abbrev settled_from : Pairs ScopeAndName → Uses → List UnresolvedReference → Uses
+  settled_from h = settle_all (the_names h old) (machine_fate h)
 
   -- the entries from `start` to `k` are settled, and `kept` entries stay
   pub record ResolvedTo (new : Contents) (lists : Pairs Name) (kept k : ℕ) : Type 0 where
-    pub same : settled_from (kept_front (uses_of new lists) kept) (drop k old.pending) ≡ resolve_by end old.scopes (the_names old) start (uses_of old roots)
+    pub same : (h : Pairs ScopeAndName) → settled_from h (kept_front (uses_of new lists) kept) (drop k old.pending) ≡ resolve_by end old.scopes (the_names h old) start (uses_of old roots)
     pub rest : beside_uses new ≡ beside_uses old
     pub ahead : drop k new.pending ≡ drop k old.pending
     pub long : length new.pending ≡ length old.pending
@@ -72,19 +73,17 @@ module _ (end : Option EndOfScope) (bindings hoisting : Pairs ScopeAndName) (sta
     pub root : length old.root ≤ length new.root
     pub size : lists.size + start ≤ roots.size + k
 
-  pub resolved_to_more : (mid new : Contents) (b h : Pairs ScopeAndName) (lists next : Pairs Name) (kept m k : ℕ) (e : UnresolvedReference) (f : Fate) → ResolvedTo mid lists kept k →
-      b ≡ bindings → h ≡ hoisting → slice_get mid.pending k ≡ Some e → fate_meant f ≡ fate_in end mid.scopes (names_of mid b h) (uses_of mid no_pairs) e →
+  pub resolved_to_more : (mid new : Contents) (lists next : Pairs Name) (kept m k : ℕ) (e : UnresolvedReference) (f : Fate) → ResolvedTo mid lists kept k →
+      slice_get mid.pending k ≡ Some e → ((h : Pairs ScopeAndName) → fate_meant f ≡ fate_in end mid.scopes (the_names h mid) (uses_of mid no_pairs) e) →
       Settled mid lists new next e f kept m → ResolvedTo new next m (k + 1)
   unfolding settle_all
-  resolved_to_more mid new b h lists next kept m k e f i qb qh q a s =
+  resolved_to_more mid new lists next kept m k e f i q a s =
       let us = kept_front (uses_of mid lists) kept in
-      let fate : fate_meant f ≡ machine_fate us e =
-      a ∙ ap (λ (x : Pairs ScopeAndName). fate_in end mid.scopes (names_of mid x h) (uses_of mid no_pairs) e) qb ∙
-      ap (λ (x : Pairs ScopeAndName). fate_in end mid.scopes (names_of mid bindings x) (uses_of mid no_pairs) e) qh ∙
-      fate_by_references end mid.scopes (the_names mid) (uses_of mid no_pairs) us e refl ∙ ap (λ (x : Contents). fate_in end x.scopes (the_names x) us e) i.rest in
-      let step : kept_front (uses_of new next) m ≡ settle (the_names old) us e (machine_fate us e) =
-      s.after ∙ ap (settle (symbols_of mid) us e) fate ∙ settle_by_symbols (symbols_of mid) (the_names old) us e (machine_fate us e) (ap (λ (x : Contents). x.symbols) i.rest) in
-      let g : Grown us (kept_front (uses_of new next) m) = subst (Grown us) (sym step) (grown (the_names old) us e (machine_fate us e)) in
+      let fate : (h : Pairs ScopeAndName) → fate_meant f ≡ machine_fate h us e =
+      λ h. a h ∙ fate_by_references end mid.scopes (the_names h mid) (uses_of mid no_pairs) us e refl ∙ ap (λ (x : Contents). fate_in end x.scopes (the_names h x) us e) i.rest in
+      let step : (h : Pairs ScopeAndName) → kept_front (uses_of new next) m ≡ settle (the_names h old) us e (machine_fate h us e) =
+      λ h. s.after ∙ ap (settle (symbols_of mid) us e) (fate h) ∙ settle_by_symbols (symbols_of mid) (the_names h old) us e (machine_fate h us e) (ap (λ (x : Contents). x.symbols) i.rest) in
+      let g : Grown us (kept_front (uses_of new next) m) = subst (Grown us) (sym (step no_pairs)) (grown (the_names no_pairs old) us e (machine_fate no_pairs us e)) in
       let small = kept_small f kept in
       let there = slice_get_within mid.pending k e q in
       let on = drop_more_same mid.pending old.pending k i.ahead in
@@ -95,7 +94,7 @@ module _ (end : Option EndOfScope) (bindings hoisting : Pairs ScopeAndName) (sta
       let before = length-take-le kept mid.pending (omega arith) in
       let after = length-take-le m new.pending (omega arith) in
       record {
-        same = ap (λ (u : Uses). settled_from u (drop (k + 1) old.pending)) step ∙ sym (ap (settled_from us) d) ∙ i.same;
+        same = λ h. ap (λ (u : Uses). settled_from h u (drop (k + 1) old.pending)) (step h) ∙ sym (ap (settled_from h us) d) ∙ i.same h;
         rest = s.rest ∙ i.rest;
         ahead = ap (drop (k + 1)) s.pending ∙ pending_drop f mid.pending kept e (k + 1) (omega arith) ∙ on;
         long = long ∙ i.long;
@@ -107,6 +106,6 @@ module _ (end : Option EndOfScope) (bindings hoisting : Pairs ScopeAndName) (sta
       }
 
   pub resolved_to_all : (new : Contents) (lists : Pairs Name) (kept k : ℕ) → ResolvedTo new lists kept k → length old.pending ≤ k →
-      kept_front (uses_of new lists) kept ≡ resolve_by end old.scopes (the_names old) start (uses_of old roots)
+      (h : Pairs ScopeAndName) → kept_front (uses_of new lists) kept ≡ resolve_by end old.scopes (the_names h old) start (uses_of old roots)
   unfolding settle_all
-  resolved_to_all new lists kept k i l = sym (ap (settled_from (kept_front (uses_of new lists) kept)) (drop_all k old.pending l)) ∙ i.same
+  resolved_to_all new lists kept k i l h = sym (ap (settled_from h (kept_front (uses_of new lists) kept)) (drop_all k old.pending l)) ∙ i.same h

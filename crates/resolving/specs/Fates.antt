@@ -9,7 +9,6 @@ use Rattle.stores.specs.Pairs.{Pairs, no_pairs, least_capacity}
 use Rattle.model.specs.State.{Names, Uses}
 use Rattle.model.specs.Resolving.{Fate as ModelFate, resolve_to, list_at_root, stay, fate_here, fate_at_end, deferred, keep_pending, settle, settle_all}
 use Rattle.model.specs.View.{names_of, uses_of, beside_uses}
-use Rattle.lookup.specs.declared.name_tables.NameTables.{NameTables}
 use Rattle.resolving.specs.declared.fate.Fate.{Fate}
 use Rattle.resolving.specs.declared.fate.Fate.TheVariants.{Resolve, ListAtRoot, Stay}
 use Rattle.resolving.specs.declared.fate.EndOfScope.{EndOfScope}
@@ -32,13 +31,6 @@ kept_front us kept = keep_pending us (take kept us.pending)
 -- the uses once all entries from `start` on are settled
 abbrev pub resolve_by : Option EndOfScope → List ScopeRow → Names → ℕ → Uses → Uses
 resolve_by end rows nm start us = settle_all nm (fate_in end rows nm) (kept_front us start) (drop start us.pending)
-
--- the uses that tables and root lists stand for, and what resolving leaves as it was
-abbrev pub uses_in : {B H R : Type 0} → (R → Pairs Name) → NameTables B H → R → Uses
-uses_in roots t r = uses_of t.scoping (roots r)
-
-abbrev pub beside_uses_in : {B H : Type 0} → NameTables B H → Contents × (B × H)
-beside_uses_in t = (beside_uses t.scoping, (t.bindings, t.hoisting))
 
 -- the entries from `start` on are there, and so are the rows and the root lists that settling them takes
 pub record HasRoom (us : Uses) (start : ℕ) : Type 0 where

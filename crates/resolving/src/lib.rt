@@ -3,4 +3,4 @@
 
 pub mod fate;
 pub mod resolve;
-mod settle;
+pub mod settle;

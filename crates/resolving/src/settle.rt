@@ -3,15 +3,13 @@
 
 ghost use Rattle.std.specs.Prelude.{◌≡◌, ◌<◌, length};
 ghost use Rattle.tables.specs.Limits.{most_references};
-ghost use Rattle.stores.specs.Pairs.{least_capacity, no_pairs};
+ghost use Rattle.stores.specs.Pairs.{Pairs, least_capacity, no_pairs};
 ghost use Rattle.model.specs.Resolving.{list_number, with_list, settle, resolve_to, list_at_root};
-ghost use Rattle.model.specs.View.{uses_of, beside_uses};
-ghost use Rattle.lookup.specs.NamesIn.{names_in};
+ghost use Rattle.model.specs.View.{names_of, uses_of, beside_uses};
 ghost use Rattle.resolving.specs.Fates.{fate_meant, fate_in, symbols_of, HasRoomForOne, Settled};
 
 use crate::fate::{EndOfScope, Fate};
-use lookup::name_tables::NameTables;
-use lookup::search::{resolved_flags, scope_is_descendant_of};
+use lookup::search::{resolved_flags, scope_is_descendant_of, search_chain};
 use lookup::sought::Sought;
 use stores::key::ScopeAndName;
 use stores::store::Store;
@@ -20,19 +18,20 @@ use tables::row::{ReferenceRow, ResolvedReference, RootReference, UnresolvedRefe
 use tables::scoping::Scoping;
 
 /// What becomes of a pending entry. One from elsewhere is not looked up at the end of a scope.
-pub(crate) fn fate_of<B: Store<ScopeAndName>, H: Store<ScopeAndName>>(
-    names: &NameTables<B, H>,
+pub fn fate_of<B: Store<ScopeAndName>>(
+    scoping: &Scoping,
+    bindings: &B,
     end: Option<EndOfScope>,
     entry: UnresolvedReference,
 ) -> Fate
-    ensures { fate_meant result ≡ fate_in end names.now.scoping.scopes (names_in B.PairSet.pairs H.PairSet.pairs names.now) (uses_of names.now.scoping no_pairs) entry }
+    ensures { (h : Pairs ScopeAndName) → fate_meant result ≡ fate_in end scoping.now.scopes (names_of scoping.now (B.PairSet.pairs bindings.now) h) (uses_of scoping.now no_pairs) entry }
 {
-    if end.is_some_and(|end| !scope_is_descendant_of(&names.scoping, entry.scope, end.scope)) {
+    if end.is_some_and(|end| !scope_is_descendant_of(scoping, entry.scope, end.scope)) {
         return Fate::Stay(entry.scope);
     }
-    let flags = names.scoping.reference_or_empty(entry.reference).flags;
+    let flags = scoping.reference_or_empty(entry.reference).flags;
     let last = end.map(|end| end.scope);
-    match names.search_chain(entry.name, flags, entry.scope, last) {
+    match search_chain(scoping, bindings, entry.name, flags, entry.scope, last) {
         Sought::Found(symbol) => Fate::Resolve(symbol),
         Sought::Ended => Fate::ListAtRoot,
         Sought::Passed => end.map_or(Fate::ListAtRoot, |end| Fate::Stay(end.parent)),

@@ -3,12 +3,11 @@
 
 use crate::exercise::Answers;
 use crate::looks::{Looks, deleted, of_absent, of_bindings};
-use crate::over::{asked, exercised};
+use crate::over::{asked_list, asked_slots, in_list, in_slots};
 use crate::zone::{BINDINGS, binding, passing};
 use hash_store::hash::HashStore;
 use hash_store::slot::Slot;
 use list_store::entry::Entry;
-use list_store::list::ListStore;
 use std::io;
 use stores::key::ScopeAndName;
 use stores::places::Places;
@@ -111,49 +110,33 @@ fn main(rt: HostRuntime) -> io::Result<()> {
     show_answers(
         rt,
         "list store, scope and name",
-        exercised(Places::new(&mut entries).map(ListStore::new), a, b),
+        in_list(&mut entries, a, b),
     )?;
     let mut named = [Entry::default(); ENTRIES];
     show_answers(
         rt,
         "list store, name",
-        exercised(
-            Places::new(&mut named).map(ListStore::new),
-            Name(7),
-            Name(8),
-        ),
+        in_list(&mut named, Name(7), Name(8)),
     )?;
     let mut slots = [Slot::default(); SLOTS];
     show_answers(
         rt,
         "hashed store, scope and name",
-        exercised(Places::new(&mut slots).map(HashStore::new), a, b),
+        in_slots(&mut slots, a, b),
     )?;
     let mut name_slots = [Slot::default(); SLOTS];
     show_answers(
         rt,
         "hashed store, name",
-        exercised(
-            Places::new(&mut name_slots).map(HashStore::new),
-            Name(7),
-            Name(8),
-        ),
+        in_slots(&mut name_slots, Name(7), Name(8)),
     )?;
-    show_asked(
-        rt,
-        "list store, fresh",
-        asked(Places::new(&mut entries).map(ListStore::new), a),
-    )?;
-    show_asked(
-        rt,
-        "hashed store, fresh",
-        asked(Places::new(&mut slots).map(HashStore::new), a),
-    )?;
+    show_asked(rt, "list store, fresh", asked_list(&mut entries, a))?;
+    show_asked(rt, "hashed store, fresh", asked_slots(&mut slots, a))?;
     let mut few_slots = [Slot::default(); TOO_FEW];
     show_asked(
         rt,
         "hashed store, too few slots",
-        asked(Places::new(&mut few_slots).map(HashStore::new), a),
+        asked_slots(&mut few_slots, a),
     )?;
     show_zone(rt, &mut slots, 0)?;
     show_zone(rt, &mut slots, ROUNDS)?;

@@ -19,6 +19,11 @@ pub trait Key: Copy + Eq {
     ghost small: { (x : Self) → hash x < 2 ^ 32 };
 }
 
+/// Keys that are the same are equal. No store needs it, so it is no law of `Key`.
+pub trait ExactKey: Key {
+    ghost exact: { (x y : Self) → Self.eq x y ≡ true → x ≡ y };
+}
+
 /// The key of a binding.
 #[derive(Clone, Copy, PartialEq, Eq, Default)]
 pub struct ScopeAndName {
@@ -63,6 +68,10 @@ impl Key for ScopeAndName {
     }
 }
 
+impl ExactKey for ScopeAndName {
+    ghost exact = { Prim.search rules };
+}
+
 impl Key for Name {
     ghost hash = { hash_of_name };
 
@@ -73,4 +82,8 @@ impl Key for Name {
     fn hash_number(&self) -> u32 {
         scramble(self.0.wrapping_mul(NAME_FACTOR))
     }
+}
+
+impl ExactKey for Name {
+    ghost exact = { Prim.search rules };
 }

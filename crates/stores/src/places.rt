@@ -15,14 +15,22 @@ pub struct Places<'a, T> {
 }
 
 impl<'a, T> Places<'a, T> {
-    /// Refused exactly if the places are too few for a store.
+    /// Whether the places are enough for a store. They are only looked at, so a refusal leaves them as they are.
+    pub fn check(places: &[T]) -> Result<(), Refusal>
+        ensures { result ≡ (if nat_lt (length places.now) least_capacity then Err StoreFull else Ok tt) }
+    {
+        if places.len() < LEAST_CAPACITY {
+            Err(Refusal::StoreFull)
+        } else {
+            Ok(())
+        }
+    }
+
+    /// Refused exactly if `check` refuses.
     pub fn new(lent: &'a mut [T]) -> Result<Places<'a, T>, Refusal>
         ensures { result_map_both (λ p. p.lent.now) (λ e. e) result ≡ (if nat_lt (length lent.old) least_capacity then Err StoreFull else Ok lent.old) }
     {
-        if lent.len() < LEAST_CAPACITY {
-            Err(Refusal::StoreFull)
-        } else {
-            Ok(Places { lent })
-        }
+        Self::check(lent)?;
+        Ok(Places { lent })
     }
 }

@@ -58,12 +58,27 @@ impl OwnedRow for RootReference {
 pub fn count_of<T: OwnedRow>(rows: &[T], owner: T::Owner) -> usize
     ensures { result ≡ length (owned T.OwnedRow.owner (T.OwnedRow.number owner) rows.now) }
 {
-    rows.iter().filter(|row| row.is_of(owner)).count()
+    let mut count = 0;
+    for row in rows {
+        if row.is_of(owner) {
+            count += 1;
+        }
+    }
+    count
 }
 
 /// The k-th row of the owner.
 pub fn row_of<T: OwnedRow>(rows: &[T], owner: T::Owner, k: usize) -> Option<T>
     ensures { result ≡ slice_get (owned T.OwnedRow.owner (T.OwnedRow.number owner) rows.now) k }
 {
-    rows.iter().copied().filter(|row| row.is_of(owner)).nth(k)
+    let mut ahead = k;
+    for row in rows {
+        if row.is_of(owner) {
+            if ahead == 0 {
+                return Some(*row);
+            }
+            ahead -= 1;
+        }
+    }
+    None
 }

@@ -11,14 +11,14 @@ use Rattle.model.proofs.Walks.{before_short}
 use Rattle.zone_text.specs.Pieces.{behind, onto_first, pieces, filled}
 
 module _ (test : ℕ → Bool) where
-  take_before : (bs : List ℕ) → take (length (before test bs)) bs ≡ before test bs
+  pub take_before : (bs : List ℕ) → take (length (before test bs)) bs ≡ before test bs
   take_before [] = refl
   take_before (b ∷ bs) =
       elim (test b) as (λ t. take (length (cond t [] (b ∷ before test bs))) (b ∷ bs) ≡ cond t [] (b ∷ before test bs))
       [ true ↦ refl | false ↦ ap (λ l. b ∷ l) (take_before bs) ]
 
   -- the separator goes too
-  drop_before : (bs : List ℕ) → drop (suc (length (before test bs))) bs ≡ behind test bs
+  pub drop_before : (bs : List ℕ) → drop (suc (length (before test bs))) bs ≡ behind test bs
   drop_before [] = refl
   drop_before (b ∷ bs) =
       elim (test b) as (λ t. drop (suc (length (cond t [] (b ∷ before test bs)))) (b ∷ bs) ≡ cond t bs (behind test bs))
@@ -44,7 +44,7 @@ module _ (test : ℕ → Bool) where
       )
 
   -- the first piece of what is not empty, and the others
-  pieces_step : (b : ℕ) (bs : List ℕ) → pieces test (b ∷ bs) ≡ before test (b ∷ bs) ∷ pieces test (behind test (b ∷ bs))
+  pub pieces_step : (b : ℕ) (bs : List ℕ) → pieces test (b ∷ bs) ≡ before test (b ∷ bs) ∷ pieces test (behind test (b ∷ bs))
   pieces_step b [] = elim (test b) as (λ t. cond t ([] ∷ []) ((b ∷ []) ∷ []) ≡ cond t [] (b ∷ []) ∷ pieces test (cond t [] [])) [ true ↦ refl | false ↦ refl ]
   pieces_step b (d ∷ ds) =
       elim (test b) as (λ t. cond t ([] ∷ pieces test (d ∷ ds)) (onto_first b (pieces test (d ∷ ds))) ≡ cond t [] (b ∷ before test (d ∷ ds)) ∷ pieces test (cond t (d ∷ ds) (behind test (d ∷ ds))))

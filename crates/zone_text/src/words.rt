@@ -30,8 +30,11 @@ impl<'a> Iterator for Words<'a> {
 
     fn next(&mut self) -> Option<&'a [u8]> {
         let is_part = |byte: &u8| !Separator::Space.separates(*byte);
-        let start = self.rest.iter().position(is_part)?;
-        let (word, rest) = cut(&self.rest[start..], Separator::Space);
+        let line = self.rest;
+        // Where spaces alone are left, a later call finds nothing to look at.
+        self.rest = &[];
+        let start = line.iter().position(is_part)?;
+        let (word, rest) = cut(&line[start..], Separator::Space);
         self.rest = rest;
         Some(word)
     }

@@ -8,6 +8,7 @@ use super::SemanticBuilder;
 use super::made::start;
 use declaring::dispatch::{declare_by_manner, reach_of};
 use kinds::checked::Checked;
+use lookup::name_tables::NameTables;
 use model::call::{Counts, Declaration, NewReference, NewScope};
 use model::setting::Setting;
 use resolving::resolve::{resolve_all, resolve_from};
@@ -120,11 +121,21 @@ impl<B: Store<ScopeAndName>, H: Store<ScopeAndName>, R: Store<Name>> Binding
             return Err(Refusal::StartPastPending);
         }
         check_places(&self.roots, count - start)?;
-        Ok(resolve_from(&mut self.names, &mut self.roots, self.current, start))
+        let NameTables {
+            scoping,
+            bindings,
+            ..
+        } = &mut self.names;
+        Ok(resolve_from(scoping, bindings, &mut self.roots, self.current, start))
     }
 
     fn resolve_all_references(&mut self) -> Result<Counts, Refusal> {
         check_places(&self.roots, self.names.scoping.pending().len())?;
-        Ok(resolve_all(&mut self.names, &mut self.roots))
+        let NameTables {
+            scoping,
+            bindings,
+            ..
+        } = &mut self.names;
+        Ok(resolve_all(scoping, bindings, &mut self.roots))
     }
 }

@@ -1,7 +1,9 @@
 //! What can be read of a builder. An id or a place in a list that leads to nothing is refused as absent.
-ghost use Rattle.std.specs.Prelude.{◌≡◌, length, Ok};
+ghost use Rattle.std.specs.Prelude.{◌≡◌, ◌≤◌, length, Ok};
 ghost use Rattle.std.specs.List.{slice_get};
 ghost use Rattle.tables.specs.Contents.{row_answer};
+ghost use Rattle.tables.specs.Limits.{most_scopes, most_symbols, most_references, most_conflicts};
+ghost use Rattle.tables.specs.Trees.{Tree};
 ghost use Rattle.tables.specs.Picked.{redeclarations_of, resolved_of, root_of};
 ghost use Rattle.tables.specs.Reading.{if_there, span_ends, symbol_ends};
 ghost use Rattle.model.specs.Basics.{maybe, the_name};
@@ -15,6 +17,7 @@ use super::SemanticBuilder;
 use lookup::search::binding_in;
 use stores::key::ScopeAndName;
 use stores::store::Store;
+use tables::entry::entry_at;
 use tables::id::{Name, ReferenceId, ScopeId, SymbolId};
 use tables::owned::{count_of, row_of};
 use tables::refusal::Refusal;
@@ -33,19 +36,22 @@ impl<B: Store<ScopeAndName>, H: Store<ScopeAndName>, R: Store<Name>> SemanticBui
     }
 
     pub fn scope_count(&self) -> usize
-        ensures { result ≡ length (view self.now).scopes }
+        ensures count { result ≡ length (view self.now).scopes }
+        ensures few { result ≤ most_scopes }
     {
         self.names.scoping.scopes().len()
     }
 
     pub fn scope(&self, id: ScopeId) -> Result<ScopeRow, Refusal>
-        ensures { result ≡ row_answer (slice_get (view self.now).scopes id.0) }
+        ensures row { result ≡ row_answer (slice_get (view self.now).scopes id.0) }
+        ensures tree { Tree (view self.now).scopes }
     {
         self.names.scoping.scope(id)
     }
 
     pub fn symbol_count(&self) -> usize
-        ensures { result ≡ length (view self.now).names.symbols }
+        ensures count { result ≡ length (view self.now).names.symbols }
+        ensures few { result ≤ most_symbols }
     {
         self.names.scoping.symbols().len()
     }
@@ -63,7 +69,8 @@ impl<B: Store<ScopeAndName>, H: Store<ScopeAndName>, R: Store<Name>> SemanticBui
     }
 
     pub fn reference_count(&self) -> usize
-        ensures { result ≡ length (view self.now).uses.references }
+        ensures count { result ≡ length (view self.now).uses.references }
+        ensures few { result ≤ most_references }
     {
         self.names.scoping.references().len()
     }
@@ -101,7 +108,8 @@ impl<B: Store<ScopeAndName>, H: Store<ScopeAndName>, R: Store<Name>> SemanticBui
     }
 
     pub fn conflict_count(&self) -> usize
-        ensures { result ≡ length (view self.now).names.conflicts }
+        ensures count { result ≡ length (view self.now).names.conflicts }
+        ensures few { result ≤ most_conflicts }
     {
         self.names.scoping.conflicts().len()
     }
@@ -109,12 +117,12 @@ impl<B: Store<ScopeAndName>, H: Store<ScopeAndName>, R: Store<Name>> SemanticBui
     pub fn conflict(&self, k: usize) -> Result<Conflict, Refusal>
         ensures { result ≡ row_answer (slice_get (view self.now).names.conflicts k) }
     {
-        let conflicts = self.names.scoping.conflicts();
-        conflicts.get(k).copied().ok_or(Refusal::Absent)
+        entry_at(self.names.scoping.conflicts(), k)
     }
 
     pub fn pending_count(&self) -> usize
-        ensures { result ≡ length (view self.now).uses.pending }
+        ensures count { result ≡ length (view self.now).uses.pending }
+        ensures few { result ≤ most_references }
     {
         self.names.scoping.pending().len()
     }
@@ -122,8 +130,7 @@ impl<B: Store<ScopeAndName>, H: Store<ScopeAndName>, R: Store<Name>> SemanticBui
     pub fn pending(&self, k: usize) -> Result<UnresolvedReference, Refusal>
         ensures { result ≡ row_answer (slice_get (view self.now).uses.pending k) }
     {
-        let pending = self.names.scoping.pending();
-        pending.get(k).copied().ok_or(Refusal::Absent)
+        entry_at(self.names.scoping.pending(), k)
     }
 
     /// How many declarations of the symbol are written down: none if it was declared once.

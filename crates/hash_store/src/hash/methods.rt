@@ -21,10 +21,19 @@ impl<'a, K: Key> HashStore<'a, K> {
         let hash = key.hash_number();
         let home = hash as usize % n;
         let slots = &*self.slots;
-        (0..n)
-            .map(|step| behind(home, step, n))
-            .take_while(|at| slots.get(*at).is_some_and(|slot| !slot.is_empty()))
-            .find(|at| slots.get(*at).is_some_and(|slot| slot.holds(key, hash)))
+        // No chain: its adapters would read each slot twice, and every look-up goes through here.
+        let mut at = home;
+        for _step in 0..n {
+            let slot = &slots[at];
+            if slot.is_empty() {
+                return None;
+            }
+            if slot.holds(key, hash) {
+                return Some(at);
+            }
+            at = behind(at, 1, n);
+        }
+        None
     }
 
     /// The first slot from the home of `hash` on that a new pair can take.
@@ -34,10 +43,14 @@ impl<'a, K: Key> HashStore<'a, K> {
         ensures way { MatchOption result ((j : ℕ) → j < length self.now.slots.now → is_full (slice_index_or self.now.slots.now j Empty) ≡ true) (λ i. (t : ℕ) → t < steps (length self.now.slots.now) (hash % length self.now.slots.now) i → is_full (slice_index_or self.now.slots.now (spot (length self.now.slots.now) (hash % length self.now.slots.now) t) Empty) ≡ true) }
     {
         let slots = &*self.slots;
-        let home = hash as usize % slots.len();
-        (0..slots.len())
-            .map(|turn| behind(home, turn, slots.len()))
-            .find(|at| slots.get(*at).is_some_and(|slot| !slot.is_full()))
+        let mut at = hash as usize % slots.len();
+        for _turn in 0..slots.len() {
+            if !slots[at].is_full() {
+                return Some(at);
+            }
+            at = behind(at, 1, slots.len());
+        }
+        None
     }
 
     /// The first slot behind `hole` whose pair may move there, which brings it nearer to its home.
@@ -49,8 +62,8 @@ impl<'a, K: Key> HashStore<'a, K> {
     {
         let n = self.slots.len();
         // No chain: a pair may move if it is `step` places from its home, so each adapter would carry the step beside the place.
+        let mut at = behind(hole, 1, n);
         for step in 1..n {
-            let at = behind(hole, step, n);
             match self.slots[at] {
                 Slot::Empty => return None,
                 Slot::Deleted => {}
@@ -60,6 +73,7 @@ impl<'a, K: Key> HashStore<'a, K> {
                     }
                 }
             }
+            at = behind(at, 1, n);
         }
         None
     }
@@ -122,6 +136,10 @@ impl<'a, K: Key> Store<K> for HashStore<'a, K> {
     }
 
     fn clear(&mut self) {
+        // A store with no pairs is clear already, whatever its slots are.
+        if self.count == 0 {
+            return;
+        }
         self.slots.fill(Slot::Empty);
         self.count = 0;
     }

@@ -87,19 +87,22 @@ impl Scoping {
     }
 
     pub fn scope(&self, id: ScopeId) -> Result<ScopeRow, Refusal>
-        ensures { result ≡ row_answer (slice_get self.now.scopes id.0) }
+        ensures row { result ≡ row_answer (slice_get self.now.scopes id.0) }
+        ensures tree { Tree self.now.scopes }
     {
         row_at(self.scopes(), id.0).ok_or(Refusal::Absent)
     }
 
     pub fn symbol(&self, id: SymbolId) -> Result<SymbolRow, Refusal>
-        ensures { result ≡ row_answer (slice_get self.now.symbols id.0) }
+        ensures row { result ≡ row_answer (slice_get self.now.symbols id.0) }
+        ensures few { length self.now.symbols ≤ most_symbols }
     {
         row_at(self.symbols(), id.0).ok_or(Refusal::Absent)
     }
 
     pub fn reference(&self, id: ReferenceId) -> Result<ReferenceRow, Refusal>
-        ensures { result ≡ row_answer (slice_get self.now.references id.0) }
+        ensures row { result ≡ row_answer (slice_get self.now.references id.0) }
+        ensures few { length self.now.references ≤ most_references }
     {
         row_at(self.references(), id.0).ok_or(Refusal::Absent)
     }

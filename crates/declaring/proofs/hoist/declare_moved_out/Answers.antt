@@ -27,5 +27,6 @@ returns-clause-names g c =
     let kept = ap (λ (p : Pairs ScopeAndName). p.size) (move_hoists (names_in g.B.PairSet.pairs g.H.PairSet.pairs c.declare_symbol_on_scope-symbol.new.names) c.args.current.0 c.var_scope-to.result.0 c.args.d.name.0 s) in
     let as_before = ap (λ (p : Pairs ScopeAndName). p.size) (declare_hoists (plain c.args.d) c.args.current.0 (names_in g.B.PairSet.pairs g.H.PairSet.pairs c.args.names.now)) in
     let room = c.requires.hoisted in
-    let pairs = put_room same_scope_and_name (g.H.PairSet.pairs h) (place c.args.current.0 c.args.d.name.0) s _ (g.H.PairSet.bounds h) (omega arith) in
+    let enough = (g.H.PairSet.bounds h).enough in
+    let pairs = put_room same_scope_and_name (g.H.PairSet.pairs h) (place c.args.current.0 c.args.d.name.0) s (g.H.PairSet.capacity h) (omega arith) in
     grind (arith, common_steps)

@@ -1,4 +1,4 @@
-use Rattle.std.proofs.Common.{◌≡◌, ◌<◌, not, ◌∷◌, length, sym, ap, arith, ◌∙◌, rules, tests}
+use Rattle.std.proofs.Common.{◌≡◌, ◌<◌, not, ◌∷◌, length, refl, sym, ap, arith, ◌∙◌, rules, tests}
 use Rattle.std.specs.List.{position}
 use Rattle.std.proofs.lemmas.Iterator.{YieldsList-from_slice}
 use Rattle.std.proofs.lemmas.Iterator.Search.{position_from_yields_List}
@@ -12,7 +12,7 @@ returns-in_err-start-clause-steps c =
     let line = c.self.inside.rest.now in
     let found : c.position.result ≡ position (λ b. not (separates Space b)) line = position_from_yields_List (λ b. not (separates Space b)) _ _ c.position.result c.position.ensures.ran (YieldsList-from_slice line cc) (λ x b q k. search (rules, tests)) in
     let none = none_filled (separates Space) line (sym c.in_err-start.was ∙ found) in
-    rw (c.from_residual.ensures, ← c.self.view_is) (none, none)
+    rw (c.from_residual.ensures, ← c.self.view_is) (none, refl)
 
 -- the line's first word is the one behind the spaces, and the others are left
 pub returns : goal.returns

@@ -1,4 +1,3 @@
-use Rattle.std.proofs.Common.{ap}
 use Rattle.builder.specs.State.{view}
 use Rattle.builder.proofs.KeptUses.{kept_as, resolve_end_keeps}
 use Rattle.builder.proofs.Kept.{kept_resolved}
@@ -10,6 +9,6 @@ invariant_of-self-2 g c =
     let s = c.args.self.now in
     let m = view s in
     record {
-      kept = kept_resolved s.current.0 s.names.scoping c.resolve_all.new.names.scoping m.uses.roots _ s.kept (ap (λ x. x.0) c.resolve_all.ensures.rest)
-          (kept_as m.uses _ _ c.resolve_all.ensures.after (resolve_end_keeps m.scopes m.names m.uses));
+      kept = kept_resolved s.current.0 s.names.scoping c.resolve_all.new.scoping m.uses.roots _ s.kept c.resolve_all.ensures.rest
+          (kept_as m.uses _ _ (c.resolve_all.ensures.after m.names.hoisting) (resolve_end_keeps m.scopes m.names m.uses));
     }

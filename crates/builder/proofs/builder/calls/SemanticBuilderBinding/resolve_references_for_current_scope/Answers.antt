@@ -1,4 +1,3 @@
-use Rattle.std.proofs.Common.{ap}
 use Rattle.builder.specs.State.{view}
 use Rattle.builder.proofs.KeptUses.{kept_as, resolve_here_keeps}
 use Rattle.builder.proofs.Kept.{kept_resolved}
@@ -9,6 +8,6 @@ invariant_of-self g c =
     let s = c.args.self.now in
     let m = view s in
     record {
-      kept = kept_resolved s.current.0 s.names.scoping c.resolve_from.new.names.scoping m.uses.roots _ s.kept (ap (λ x. x.0) c.resolve_from.ensures.rest)
-          (kept_as m.uses _ _ c.resolve_from.ensures.after (resolve_here_keeps m.scopes m.current m.names c.args.start m.uses));
+      kept = kept_resolved s.current.0 s.names.scoping c.resolve_from.new.scoping m.uses.roots _ s.kept c.resolve_from.ensures.rest
+          (kept_as m.uses _ _ (c.resolve_from.ensures.after m.names.hoisting) (resolve_here_keeps m.scopes m.current m.names c.args.start m.uses));
     }

@@ -1,6 +1,14 @@
-use Rattle.std.proofs.Common.{length, sym, arith}
-use Rattle.hash_store.proofs.Kept.{only_empty, taken_none, unfull_filled, settled_filled, unlike_filled, hashed_unfull}
+use Rattle.std.proofs.Common.{◌≡◌, length, sym, ap, ◌∙◌, arith}
+use Rattle.hash_store.specs.Slots.{hashed}
+use Rattle.hash_store.proofs.Kept.{only_empty, taken_none, unfull_taken, unfull_filled, settled_filled, unlike_filled, hashed_unfull}
 use Rattle.hash_store.proofs.hash.methods.HashStoreStore.clear.Goals as goal
+
+pub returns-then-self-eq0-clause-after : goal.returns-then-self-eq0-clause-after
+returns-then-self-eq0-clause-after g c =
+    let s = c.args.self.now in
+    let xs = s.slots.now in
+    let none : s.count ≡ 0 = omega arith in
+    ap (λ n. hashed g.K.PartialEq.eq g.K.Key.hash n xs) none ∙ hashed_unfull xs (unfull_taken xs (sym s.counted ∙ none)) g.K.PartialEq.eq g.K.Key.hash
 
 pub invariant_of-self : goal.invariant_of-self
 invariant_of-self g c =
